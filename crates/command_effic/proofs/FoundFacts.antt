@@ -46,7 +46,8 @@ module _ (naming : Naming) (kind : LineKind) (line : Line) (least most : ℕ) (p
       let R : EfficCert → Type 0 = IsSayable in
       subst R (one f.certificate cert (sym f.keeps ∙ is)) (elim f.answer [
         | inl a ↦ a.1.solved.certified.sayable
-        | inr a ↦ (stopped_certified a.1.why kind line least most plan f.certificate a.1.closing_from a.1.stopped).sayable
+        | inr a ↦ (stopped_certified a.1.why kind line least most plan f.certificate a.1.closing_from a.1.seeks.kept
+            a.1.stopped).sayable
       ])
 
   module _ (files : Files) (file : List ℕ) (name : Option (List ℕ)) (said : IsPlainLine files file line)

@@ -171,9 +171,9 @@ product_fits kind line least most plan cert certified paid few = omega (
 
 -- the same where it stopped
 pub stop_fits : (why : Ended) (kind : LineKind) (line : Line) (least most : ℕ) (plan : Plan) (cert : EfficCert)
-    (closing_from : ℕ) → StoppedBy why kind line least most plan cert closing_from → plan.units ≤ 1000000
+    (closing_from kept : ℕ) → StoppedBy why kind line least most plan cert closing_from kept → plan.units ≤ 1000000
     → length (product_text cert) ≤ max_certificate
-stop_fits ended.Units kind line least most plan cert closing_from s few =
+stop_fits ended.Units kind line least most plan cert closing_from kept s few =
     product_fits kind line least most plan cert s.certified s.paid few
-stop_fits ended.Size kind line least most plan cert closing_from s few =
+stop_fits ended.Size kind line least most plan cert closing_from kept s few =
     product_fits kind line least most plan cert s.certified s.paid few

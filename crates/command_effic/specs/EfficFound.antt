@@ -30,9 +30,9 @@ idle_of line cert = idle_time line cert.cycle cert.balance.stations
 -- certificate's length.
 pub record IsOptimal (naming : Naming) (kind : LineKind) (line : Line) (least most : ℕ) (plan : Plan) (cert : EfficCert)
     (text : List ℕ) : Type 0 where
-  pub solved : IsSolved kind line least most plan cert
-  pub fits : plan.units ≤ 1000000 → length (product_text cert) ≤ max_certificate
   pub seeks : Seeks
+  pub solved : IsSolved kind line least most plan cert seeks.kept
+  pub fits : plan.units ≤ 1000000 → length (product_text cert) ≤ max_certificate
   pub counted : AreSeeks plan seeks
   pub printed : text ≡ seek_text plan.seek seeks.used seeks.most seeks.kept
       ++ optimal_text naming cert (idle_of line cert)
@@ -44,9 +44,9 @@ pub record IsStopped (naming : Naming) (kind : LineKind) (line : Line) (least mo
     (text : List ℕ) : Type 0 where
   pub why : Ended
   pub closing_from : ℕ
-  pub stopped : StoppedBy why kind line least most plan cert closing_from
-  pub fits : plan.units ≤ 1000000 → length (product_text cert) ≤ max_certificate
   pub seeks : Seeks
+  pub stopped : StoppedBy why kind line least most plan cert closing_from seeks.kept
+  pub fits : plan.units ≤ 1000000 → length (product_text cert) ≤ max_certificate
   pub counted : AreSeeks plan seeks
   pub printed : text ≡ seek_text plan.seek seeks.used seeks.most seeks.kept
       ++ stopped_text naming why cert (idle_of line cert)

@@ -55,8 +55,8 @@ fn optimal(
     seeks: Seeks,
 ) -> Result<Report, AllocError>
     requires { IsSayable cert }
-    ensures { IfOk result (λ r. (kind : Kind) → (least most : ℕ) → IsSolved kind inst.now least most plan.now cert
-        → AreSeeks plan.now seeks
+    ensures { IfOk result (λ r. (kind : Kind) → (least most : ℕ)
+        → IsSolved kind inst.now least most plan.now cert seeks.kept → AreSeeks plan.now seeks
         → IsFound (least_product naming.now kind inst.now least most plan.now) r.status r.text.items r.kept) }
 {
     let idle = idle_of(inst, cert.cycle, cert.balance.stations);
@@ -82,7 +82,7 @@ fn stopped(
 ) -> Result<Report, AllocError>
     requires { IsSayable cert }
     ensures { IfOk result (λ r. (kind : Kind) → (least most closing_from : ℕ)
-        → StoppedBy why kind inst.now least most plan.now cert closing_from → AreSeeks plan.now seeks
+        → StoppedBy why kind inst.now least most plan.now cert closing_from seeks.kept → AreSeeks plan.now seeks
         → IsFound (least_product naming.now kind inst.now least most plan.now) r.status r.text.items r.kept) }
 {
     let idle = idle_of(inst, cert.cycle, cert.balance.stations);

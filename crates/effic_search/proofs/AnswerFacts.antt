@@ -1,10 +1,11 @@
 -- What a try comes to: its seek found a balance, or its question was answered, or its units ended.
-use Rattle.std.proofs.Common.{◌≡◌, ℕ, suc, ◌+◌, ◌*◌, ◌<◌, ◌≤◌, List, [], ◌++◌, length, take, Option}
+use Rattle.std.proofs.Common.{◌≡◌, ℕ, suc, ◌+◌, ◌-◌, ◌*◌, ◌^◌, ◌<◌, ◌≤◌, min, List, [], ◌++◌, length, take, Option}
 use Rattle.std.proofs.Common.{sym, ap, ◌∙◌, subst, inl, inr, arith, Some, length-append, append_assoc}
 use Rattle.std.specs.Prelude.{slice_get}
 use Rattle.std.proofs.lemmas.Bool.{cases_eq}
 use Rattle.std.proofs.lemmas.List.{append-nil}
 use Rattle.std.proofs.lemmas.Nat.{mul-le}
+use Rattle.std.proofs.Math.Nat.{suc-mul}
 use Rattle.std.proofs.Math.Seq.{take-length}
 use Rattle.line_instance.specs.Line.{Line, tasks}
 use Rattle.line_rules.specs.Balance.{IsRight, all_tasks}
@@ -25,60 +26,84 @@ use Rattle.cycle_search.specs.rounds.declared.closing.Verdict.{Verdict}
 use Rattle.cycle_search.specs.rounds.declared.closing.Verdict.TheVariants as verdict
 use Rattle.cycle_search.specs.rounds.declared.plans.Plan.{Plan}
 use Rattle.cycle_search.specs.Asking.{ListsAll}
-use Rattle.cycle_search.specs.Seek.{AreSeeks, seek_room, try_room}
+use Rattle.cycle_search.specs.Seek.{AreSeeks, seek_room}
 use Rattle.cycle_search.specs.declared.seek.Seeks.{Seeks}
 use Rattle.effic_check.specs.Accepted.{IsClosed, cycle_below}
-use Rattle.effic_search.specs.Counted.{AreFew, IsWithin, others}
+use Rattle.effic_search.specs.Counted.{AreFew, IsCounted, IsWithin, bounds, others, most_ended}
 use Rattle.effic_search.specs.NextTry.{IsNextTry}
 use Rattle.effic_search.specs.Since.{IsSinceGoal}
 use Rattle.effic_search.specs.inner.Going.{IsLowering, IsGoing, IsTry, IsPaid, IsLeftAt, IsStuck, IsImproved}
-use Rattle.effic_search.specs.inner.Going.{HasSought, HasAsked, EndsWith, product_of, entries_of}
+use Rattle.effic_search.specs.inner.Going.{HasSought, HasAsked, EndsWith, may_bound, product_of, entries_of}
 use Rattle.effic_search.specs.declared.counting.Listed.{Listed}
 use Rattle.effic_search.specs.declared.lowering.Lowering.{Lowering}
 use Rattle.effic_search.proofs.ListFacts.{ends_split, last_added, get_behind}
 use Rattle.effic_search.proofs.SinceFacts.{since_goal, since_more}
-use Rattle.cycle_search.proofs.Results.{first_frame}
-use Rattle.effic_search.proofs.TryFacts.{left_cycle, ranked_going}
+use Rattle.cycle_search.proofs.about_rounds.TrailFacts.{first_frame}
+use Rattle.effic_search.proofs.CountFacts.{others_few}
+use Rattle.effic_search.proofs.TryFacts.{left_cycle, ranked_going, ended_less, ended_next}
 use Rattle.cycle_search.proofs.SeekFacts.{room_limit}
 use Rattle.effic_search.proofs.GainFacts.{HasGained, sought_gains, asked_gains, gains_both, both_at}
 use Rattle.effic_search.proofs.GainFacts.{about_now, gained_lowering, near_now, closed_now, clear_other, found_going}
 use Rattle.cycle_search.proofs.SeekFacts.{try_limit}
-use Rattle.effic_search.proofs.GainFacts.{product_now, paid_now, none_sought}
+use Rattle.effic_search.proofs.GainFacts.{product_now, paid_now, paid_more, bounds_now, listed_more, sought_listed, none_sought}
 
 -- another balance leaves what was taken alone
-paid_stays : (kind : LineKind) (line : Line) (m X : ℕ) (plan : Plan) (old new : Lowering)
-    → IsImproved kind line m X old new → IsPaid plan old → IsPaid plan new
-paid_stays kind line m X plan old new i p =
+paid_stays : (kind : LineKind) (line : Line) (m X : ℕ) (plan : Plan) (tries more : ℕ) (old new : Lowering)
+    → IsImproved kind line m X old new → tries ≤ more → IsPaid plan tries old → IsPaid plan more new
+paid_stays kind line m X plan tries more old new i l paid =
+    let p : IsPaid plan more old = paid_more plan tries more old l paid in
     let S : Seeks → Type 0 = λ z. AreSeeks plan z in
+    let units : new.listed.units ≡ old.listed.units = ap (λ (z : Listed). z.units) i.listed in
+    let entries : new.listed.entries ≡ old.listed.entries = ap (λ (z : Listed). z.entries) i.listed in
     record {
       seeks = subst S (sym i.seeks) p.seeks;
-      units = omega (arith, p.units, ap (λ (z : Listed). z.units) i.listed);
-      entries = omega (arith, p.entries, ap (λ (z : Listed). z.entries) i.listed);
-      many = omega (arith, p.many, ap (λ (z : BookView). length z.state.entries) i.book);
+      units = omega (arith, p.units, units);
+      entries = omega (arith, p.entries, entries);
+      within = omega (arith, p.within, units);
+      few = omega (arith, p.few, entries);
+      short = omega (arith, p.short, entries, ap (λ (z : Seeks). z.kept) i.seeks);
     }
 
+-- a round may add one entry by Bound at most
+one_bound : (v : Verdict) → may_bound v ≤ 1
+one_bound verdict.Refuted = omega arith
+one_bound verdict.Found = omega arith
+one_bound (verdict.Spent frames) = omega arith
+one_bound (verdict.NoMemory frames) = omega arith
+
+-- so many entries more are counted, and no fewer more were kept
+kept_on : (a b kept n more now : ℕ) → a ≤ b + kept → n ≤ more → now ≡ min (kept + more) (2 ^ 64 - 1)
+    → a + n ≤ 20000000 → a + n ≤ b + now
+kept_on a b kept n more now l few is all = omega (arith, l, few, is, all)
+
 module _ (kind : LineKind) (line : Line) (least most m X : ℕ) (plan : Plan) (old : Lowering) (some : 1 ≤ least)
-    (limit : plan.units ≤ 3000000) (t : IsTry kind line least most m X plan old) where
-  -- the book is small enough for the try, so what was taken is what the plan allows
-  try_pays : IsPaid plan old
-  try_pays = record {
-    seeks = t.seeks;
-    units = omega (arith, t.small);
-    entries = omega (arith, t.short);
-    many = omega (arith, t.room);
-  }
+    (small : most ≤ 1024) (limit : plan.units ≤ 3000000) (t : IsTry kind line least most m X plan old) where
+  -- the tries that have ended, and one of those
+  abbrev ended : ℕ
+  ended = most_ended line least m (product_of old)
+
+  -- the tries that have ended where the product is that one
+  abbrev pub ended_at : Lowering → ℕ
+  ended_at h = most_ended line least m (product_of h)
+
+  less_ended : (better : Lowering) → product_of better < product_of old → suc ended ≤ ended_at better
+  less_ended better less =
+      ended_less line least m (product_of better) (product_of old) less t.going.lowering.first
 
   -- the ranked balance has few enough stations
   pub ranked_found : (better : Lowering) → IsImproved kind line m X old better
-      → (IsGoing kind line least most m better × (product_of better < product_of old)) × IsPaid plan better
-  ranked_found better i = (
-    ranked_going kind line least most m X old better some t.going t.left i,
-    paid_stays kind line m X plan old better i try_pays,
-  )
+      → (IsGoing kind line least most m better × (product_of better < product_of old))
+      × IsPaid plan (ended_at better) better
+  ranked_found better i =
+      let r = ranked_going kind line least most m X old better some t.going t.left i in (
+        r,
+        paid_stays kind line m X plan ended (ended_at better) old better i
+            (omega (arith, less_ended better r.1)) t.paid,
+      )
 
   -- the book before the try was small enough for it
-  few_before : AreFew line (entries_of old)
-  few_before =
+  few_old : AreFew line (entries_of old)
+  few_old =
       let whole : take (length (entries_of old)) (entries_of old) ≡ entries_of old = take-length (entries_of old) in
       let U : List Entry → Type 0 = λ z. UnitsOf line z old.listed.units in
       record {
@@ -95,7 +120,7 @@ module _ (kind : LineKind) (line : Line) (least most m X : ℕ) (plan : Plan) (o
 
   -- the seek of the try
   module _ (mid : Lowering) (found : Option Assignment) (s : HasSought m plan X old mid found) where
-    sought_gain : HasGained (seek_room plan) (seek_room plan) X old mid
+    sought_gain : HasGained (seek_room plan) (seek_room plan) 0 X old mid
     sought_gain = sought_gains m plan X old mid found s
 
     sought_few : seek_room plan ≤ 6000001
@@ -106,8 +131,8 @@ module _ (kind : LineKind) (line : Line) (least most m X : ℕ) (plan : Plan) (o
 
     pub sought_lowering : IsLowering kind line least most mid
     sought_lowering =
-        gained_lowering kind line least most m X (seek_room plan) (seek_room plan) plan old mid some t sought_few
-        sought_paid sought_gain
+        gained_lowering kind line least most m X (seek_room plan) (seek_room plan) 0 plan old mid some small t sought_few
+        sought_paid sought_gain (omega arith)
 
     pub sought_cycle : mid.book.about.cycle ≡ X
     sought_cycle = ap (λ (z : About). z.cycle) sought_gain.about
@@ -118,12 +143,30 @@ module _ (kind : LineKind) (line : Line) (least most m X : ℕ) (plan : Plan) (o
         subst P (sym sought_cycle) (left_cycle kind line least most m X old t.going.lowering t.left)
 
     sought_seeks : AreSeeks plan mid.seeks
-    sought_seeks = let P : Seeks → Type 0 = λ z. AreSeeks plan z in subst P s.seeks (s.does.seeks t.seeks)
+    sought_seeks = let P : Seeks → Type 0 = λ z. AreSeeks plan z in subst P s.seeks (s.does.seeks t.paid.seeks)
 
-    sought_pays : IsPaid plan mid
+    -- what it brought was kept
+    sought_short : mid.listed.entries ≤ ended * (2 * plan.units + 1) + mid.seeks.kept
+    sought_short =
+        let gained : List Entry = s.does.gained in
+        let C : Line → Type 0 = λ z. IsCounted z (entries_of old) (length (entries_of old)) old.listed in
+        let is : mid.listed.entries ≡ old.listed.entries + others gained =
+        sought_listed m plan X old mid found s (subst C (sym t.going.lowering.line_is) t.going.lowering.counted) in
+        let kept : mid.seeks.kept ≡ min (old.seeks.kept + s.does.taking.kept) (2 ^ 64 - 1) =
+        ap (λ (z : Seeks). z.kept) (sym s.seeks) ∙ s.does.kept t.paid.seeks in
+        let all : old.listed.entries + others gained ≤ old.listed.entries + seek_room plan =
+        omega (arith, others_few gained, s.does.few) in
+        let on : old.listed.entries + others gained ≤ ended * (2 * plan.units + 1) + mid.seeks.kept =
+        kept_on old.listed.entries (ended * (2 * plan.units + 1)) old.seeks.kept (others gained) s.does.taking.kept
+        mid.seeks.kept t.paid.short (omega (arith, others_few gained, s.does.added)) kept
+        (omega (arith, all, t.short, sought_few)) in
+        omega (arith, is, on)
+
+    sought_pays : IsPaid plan (suc ended) mid
     sought_pays =
-        paid_now kind line least most m X (seek_room plan) (seek_room plan) plan old mid some t sought_few sought_paid
-        sought_gain (omega arith) (omega arith) sought_seeks
+        paid_now kind line least most m X (seek_room plan) (seek_room plan) 0 plan old mid some small t sought_few
+        sought_paid sought_gain (omega arith) (omega arith) sought_seeks
+        (omega (arith, sought_short, suc-mul ended (2 * plan.units + 1)))
 
     -- a balance that it found is right
     pub sought_right : (b : Assignment) → found ≡ Some b → IsRight kind line X b × (b.stations ≤ m)
@@ -135,12 +178,14 @@ module _ (kind : LineKind) (line : Line) (least most m X : ℕ) (plan : Plan) (o
         (subst P about r.0, r.1)
 
     pub sought_found : (better : Lowering) → IsImproved kind line m X mid better
-        → (IsGoing kind line least most m better × (product_of better < product_of old)) × IsPaid plan better
-    sought_found better i = (
-      found_going kind line least most m X (seek_room plan) (seek_room plan) plan old mid some t sought_few sought_paid
-          sought_gain better i,
-      paid_stays kind line m X plan mid better i sought_pays,
-    )
+        → (IsGoing kind line least most m better × (product_of better < product_of old))
+        × IsPaid plan (ended_at better) better
+    sought_found better i =
+        let r = found_going kind line least most m X (seek_room plan) (seek_room plan) 0 plan old mid some small t
+        sought_few sought_paid sought_gain (omega arith) better i in (
+          r,
+          paid_stays kind line m X plan (suc ended) (ended_at better) mid better i (less_ended better r.1) sought_pays,
+        )
 
     -- the question was asked
     module _ (new : Lowering) (v : Verdict) (h : HasAsked m plan mid new v) where
@@ -151,13 +196,13 @@ module _ (kind : LineKind) (line : Line) (least most m X : ℕ) (plan : Plan) (o
       abbrev paid : ℕ
       paid = seek_room plan + 2 * plan.units
 
-      asked_gain : HasGained (2 * plan.units + 1) (2 * plan.units) X mid new
+      asked_gain : HasGained (2 * plan.units + 1) (2 * plan.units) (may_bound v) X mid new
       asked_gain = asked_gains m plan X mid new v sought_cycle h
 
-      gain : HasGained many paid X old new
+      gain : HasGained many paid (may_bound v) X old new
       gain =
-          gains_both (seek_room plan) (2 * plan.units + 1) (seek_room plan) (2 * plan.units) X old mid new sought_gain
-          asked_gain
+          gains_both (seek_room plan) (2 * plan.units + 1) (seek_room plan) (2 * plan.units) (may_bound v) X old mid new
+          sought_gain asked_gain
 
       all_few : many ≤ 6000001
       all_few = omega (arith, try_limit plan limit)
@@ -167,7 +212,7 @@ module _ (kind : LineKind) (line : Line) (least most m X : ℕ) (plan : Plan) (o
 
       about_new : new.book.about ≡ record { line = line; kind = kind; cycle = X }
       about_new =
-          about_now kind line least most m X many paid plan old new some t all_few all_paid gain
+          about_now kind line least most m X many paid (may_bound v) plan old new some small t all_few all_paid gain
 
       cycle_new : new.book.about.cycle ≡ X
       cycle_new = ap (λ (z : About). z.cycle) about_new
@@ -181,27 +226,50 @@ module _ (kind : LineKind) (line : Line) (least most m X : ℕ) (plan : Plan) (o
       pub some_new : 1 ≤ new.book.about.cycle
       some_new = omega (arith, cycle_new, t.left.some)
 
-      asked_pays : IsPaid plan new
+      -- the round brought at most one entry more than twice the units
+      asked_short : new.listed.entries ≤ suc ended * (2 * plan.units + 1) + new.seeks.kept
+      asked_short =
+          let is : new.listed.entries ≡ mid.listed.entries + others asked_gain.gained =
+          listed_more mid.book.about.line mid new asked_gain.gained
+          (let C : Line → Type 0 = λ z. IsCounted z (entries_of mid) (length (entries_of mid)) mid.listed in
+          subst C (sym sought_lowering.line_is) sought_lowering.counted)
+          asked_gain.counted asked_gain.entries in
+          omega (
+            arith,
+            is,
+            sought_short,
+            others_few asked_gain.gained,
+            asked_gain.few,
+            ap (λ (z : Seeks). z.kept) h.seeks,
+            suc-mul ended (2 * plan.units + 1),
+          )
+
+      asked_pays : IsPaid plan (suc ended) new
       asked_pays =
           let P : Seeks → Type 0 = λ z. AreSeeks plan z in
-          paid_now kind line least most m X many paid plan old new some t all_few all_paid gain (omega arith)
-          (omega arith) (subst P (sym h.seeks) sought_seeks)
+          paid_now kind line least most m X many paid (may_bound v) plan old new some small t all_few all_paid gain (omega arith)
+          (omega arith) (subst P (sym h.seeks) sought_seeks) asked_short
 
       pub asked_lowering : IsLowering kind line least most new
       asked_lowering =
-          gained_lowering kind line least most m X many paid plan old new some t all_few all_paid gain
+          gained_lowering kind line least most m X many paid (may_bound v) plan old new some small t all_few all_paid gain
+          (one_bound v)
+
+      bounded_new : bounds (entries_of new) + 2 * least ≤ most + 1 + m + may_bound v
+      bounded_new =
+          bounds_now kind line least most m X many paid (may_bound v) plan old new some small t all_few all_paid gain
 
       same_product : product_of new ≡ product_of old
       same_product =
-          product_now kind line least most m X many paid plan old new some t all_few all_paid gain
+          product_now kind line least most m X many paid (may_bound v) plan old new some small t all_few all_paid gain
 
       closed_new : (s : ℕ) → least ≤ s → s < m → IsClosed line (entries_of new) (product_of new) s
       closed_new =
-          closed_now kind line least most m X many paid plan old new some t all_few all_paid gain
+          closed_now kind line least most m X many paid (may_bound v) plan old new some small t all_few all_paid gain
 
       clear_new : (Y : ℕ) → 1 ≤ Y → m * Y < product_of old → (Y ≡ X → ⊥) → IsSinceGoal line Y (entries_of new) []
       clear_new =
-          clear_other kind line least most m X many paid plan old new some t all_few all_paid gain
+          clear_other kind line least most m X many paid (may_bound v) plan old new some small t all_few all_paid gain
 
       -- a balance was found
       pub found_few : v ≡ verdict.Found → new.book.state.best.stations ≤ m
@@ -210,13 +278,17 @@ module _ (kind : LineKind) (line : Line) (least most m X : ℕ) (plan : Plan) (o
           let Q : BookView → Type 0 = λ z. z.state.best.stations ≤ m in
           subst Q h.book (subst P (h.verdict ∙ e) h.does.answer)
 
-      pub found_after : (better : Lowering) → IsImproved kind line m new.book.about.cycle new better
-          → (IsGoing kind line least most m better × (product_of better < product_of old)) × IsPaid plan better
-      found_after better i =
-          let P : ℕ → Type 0 = λ z. IsImproved kind line m z new better in (
-            found_going kind line least most m X many paid plan old new some t all_few all_paid gain better
-                (subst P cycle_new i),
-            paid_stays kind line m new.book.about.cycle plan new better i asked_pays,
+      pub found_after : may_bound v ≤ 0 → (better : Lowering)
+          → IsImproved kind line m new.book.about.cycle new better
+          → (IsGoing kind line least most m better × (product_of better < product_of old))
+          × IsPaid plan (ended_at better) better
+      found_after none better i =
+          let P : ℕ → Type 0 = λ z. IsImproved kind line m z new better in
+          let r = found_going kind line least most m X many paid (may_bound v) plan old new some small t all_few all_paid
+          gain none better (subst P cycle_new i) in (
+            r,
+            paid_stays kind line m new.book.about.cycle plan (suc ended) (ended_at better) new better i
+                (less_ended better r.1) asked_pays,
           )
 
       refuted_answer : v ≡ verdict.Refuted → HasAnswer (entries_of new) (all_tasks line) m X
@@ -237,12 +309,17 @@ module _ (kind : LineKind) (line : Line) (least most m X : ℕ) (plan : Plan) (o
           none_old (subst P (append-nil (entries_of old)) (subst Q none (subst P gain.entries a)))
 
       -- memory ended, or the last entry isn't as it should be
-      pub left_as : IsLowering kind line least most new × IsPaid plan new
-      left_as = (asked_lowering, asked_pays)
+      pub left_as : IsLowering kind line least most new
+          × IsPaid plan (most_ended line least (most + 1) (product_of new)) new
+      left_as = (
+        asked_lowering,
+        paid_more plan (suc ended) (most_ended line least (most + 1) (product_of new)) new
+            (omega (arith, same_product, t.left.from, t.left.to)) asked_pays,
+      )
 
       -- the question was refuted, and the last entry is of all tasks
       pub refuted_going : v ≡ verdict.Refuted → EndsWith (entries_of new) (all_tasks line)
-          → IsGoing kind line least most (m + 1) new × IsPaid plan new
+          → IsGoing kind line least most (m + 1) new × IsPaid plan (most_ended line least (m + 1) (product_of new)) new
       refuted_going refuted ends =
           let answer : HasAnswer (entries_of new) (all_tasks line) m X = refuted_answer refuted in
           let L : List Entry → Type 0 = λ z. length z ≡ suc ends.before in
@@ -272,8 +349,10 @@ module _ (kind : LineKind) (line : Line) (least most m X : ℕ) (plan : Plan) (o
                     subst P (sym e) (λ one. subst R (sym same_product) (subst Q t.is answer))
                 | inr n ↦ closed_new s from (omega (arith, to, n))
               ];
+              bounded = omega (arith, bounded_new, one_bound v);
             },
-            asked_pays,
+            paid_more plan (suc ended) (most_ended line least (m + 1) (product_of new)) new
+                (ended_next line least m (product_of new) (product_of old) same_product t.left.from) asked_pays,
           )
 
       -- the units ended, and no entry that the round added is of all tasks
@@ -371,59 +450,58 @@ module _ (kind : LineKind) (line : Line) (least most m X : ℕ) (plan : Plan) (o
             subst P (h.verdict ∙ spent) h.does.all
 
         pub spent_stuck : (closing_from : ℕ) → closing_from ≡ length (entries_of mid) → m < tasks line
-            → IsStuck kind line least most plan new frames closing_from × IsPaid plan new
+            → IsStuck kind line least most plan new frames closing_from
         spent_stuck closing_from from few =
             let same : X ≡ new.book.about.cycle = sym cycle_new in
             let G : ℕ → Type 0 = λ z. IsSinceGoal line z (entries_of new) h.does.gained in
             let A : ℕ → Type 0 = λ z. AreAtCycle z (sought_gain.gained ++ h.does.gained) in
             let N : ℕ → Type 0 = λ z. IsLeftAt line least most m z new in
-            let K : ℕ → Type 0 = λ z. IsNextTry line (entries_of new) least most (product_of new) m z in (
-              record {
-                lowering = asked_lowering;
-                m = m;
-                left = subst N same (record {
-                  from = t.left.from;
-                  to = t.left.to;
-                  some = t.left.some;
-                  floor = t.left.floor;
-                  near = near_now kind line least most m X many paid plan old new some t all_few all_paid gain;
-                  left = left_now;
-                });
-                next = subst K same (record {
-                  from = t.left.from;
-                  to = t.left.to;
-                  closed = closed_new;
-                  some = t.left.some;
-                  is = t.is ∙ ap (λ (z : ℕ). cycle_below z m) (sym same_product);
-                  left = left_now;
-                });
-                few = few;
-                trail = trail_now;
-                opens = opens_now;
-                front = entries_of old;
-                sought = sought_gain.gained;
-                since = h.does.gained;
-                added = round_entries
-                    ∙ (ap (λ (z : List Entry). z ++ h.does.gained) sought_gain.entries
-                    ∙ append_assoc (entries_of old) sought_gain.gained h.does.gained);
-                from = omega (
-                  arith,
-                  from,
-                  ap (λ (z : List Entry). length z) sought_gain.entries,
-                  length-append (entries_of old) sought_gain.gained,
-                );
-                small = few_before;
-                tried = subst A same (both_at X sought_gain.gained h.does.gained sought_gain.cycles round_cycles);
-                room = sought_within;
-                goal = λ seekless. subst G same (goal_now seekless);
-                published = h.does.published;
-                listed = h.does.listed;
-                entry_units = entry_units_now;
-                frame_units = frame_units_now;
-                within = omega (arith, h.does.paid, h.does.within, limit);
-                twice = omega (arith, h.does.paid, h.does.within);
-                all = lists.0;
-                alone = lists.1;
-              },
-              asked_pays,
-            )
+            let K : ℕ → Type 0 = λ z. IsNextTry line (entries_of new) least most (product_of new) m z in
+            record {
+              lowering = asked_lowering;
+              m = m;
+              left = subst N same (record {
+                from = t.left.from;
+                to = t.left.to;
+                some = t.left.some;
+                floor = t.left.floor;
+                near = near_now kind line least most m X many paid (may_bound v) plan old new some small t all_few all_paid gain;
+                left = left_now;
+              });
+              next = subst K same (record {
+                from = t.left.from;
+                to = t.left.to;
+                closed = closed_new;
+                some = t.left.some;
+                is = t.is ∙ ap (λ (z : ℕ). cycle_below z m) (sym same_product);
+                left = left_now;
+              });
+              few = few;
+              trail = trail_now;
+              opens = opens_now;
+              front = entries_of old;
+              sought = sought_gain.gained;
+              since = h.does.gained;
+              added = round_entries
+                  ∙ (ap (λ (z : List Entry). z ++ h.does.gained) sought_gain.entries
+                  ∙ append_assoc (entries_of old) sought_gain.gained h.does.gained);
+              from = omega (
+                arith,
+                from,
+                ap (λ (z : List Entry). length z) sought_gain.entries,
+                length-append (entries_of old) sought_gain.gained,
+              );
+              small = few_old;
+              tried = subst A same (both_at X sought_gain.gained h.does.gained sought_gain.cycles round_cycles);
+              room = sought_within;
+              goal = λ seekless. subst G same (goal_now seekless);
+              published = h.does.published;
+              listed = h.does.listed;
+              entry_units = entry_units_now;
+              frame_units = frame_units_now;
+              within = omega (arith, h.does.paid, h.does.within, limit);
+              twice = omega (arith, h.does.paid, h.does.within);
+              all = lists.0;
+              alone = lists.1;
+              paid = paid_more plan (suc ended) (suc (ended_at new)) new (omega (arith, same_product)) asked_pays;
+            }

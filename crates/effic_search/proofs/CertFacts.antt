@@ -1,5 +1,5 @@
 -- The certificate of a search is within its ranges and accepted, and what the search comes to.
-use Rattle.std.proofs.Common.{◌≡◌, ℕ, ◌+◌, ◌-◌, ◌*◌, ◌^◌, ◌<◌, ◌≤◌, ◌⊎◌, Bool, true, cond, List, ◌++◌, length, take}
+use Rattle.std.proofs.Common.{◌≡◌, ℕ, suc, ◌+◌, ◌-◌, ◌*◌, ◌^◌, ◌<◌, ◌≤◌, ◌⊎◌, Bool, true, cond, List, ◌++◌, length, take}
 use Rattle.std.proofs.Common.{Option, Some, None, refl, sym, ap, ◌∙◌, subst, inl, inr, arith, append_assoc}
 use Rattle.std.specs.Prelude.{nat_eq}
 use Rattle.std.proofs.lemmas.Bool.{eq-eqb, cases_lt}
@@ -36,7 +36,7 @@ use Rattle.line_rules.specs.declared.products.EfficCert.{EfficCert}
 use Rattle.effic_check.specs.Accepted.{IsAccepted, HasTrail}
 use Rattle.effic_check.specs.Truth.{NoneBelow}
 use Rattle.effic_check.proofs.AcceptedIsTrue.{between}
-use Rattle.effic_search.specs.Counted.{others, ArePaid}
+use Rattle.effic_search.specs.Counted.{AreBrought, ArePaid, most_ended, others}
 use Rattle.effic_search.specs.Since.{IsSinceGoal}
 use Rattle.effic_search.specs.inner.Going.{HaveCycles, IsLowering, IsGoing, IsLeftAt, IsDue, IsStuck, HasTrailBy}
 use Rattle.effic_search.specs.inner.Going.{IsPaid, HasFewUnits}
@@ -50,6 +50,7 @@ use Rattle.effic_search.specs.declared.searching.Ended.TheVariants as ended
 use Rattle.effic_search.specs.declared.lowering.Lowering.{Lowering}
 use Rattle.effic_search.proofs.LowestFacts.{lowest_closed, lowest_meets, lowest_below}
 use Rattle.effic_search.proofs.SinceFacts.{at_behind, units_at_end}
+use Rattle.effic_search.proofs.CountFacts.{all_listed}
 use Rattle.effic_search.proofs.SizeFacts.{large_budget}
 use Rattle.effic_search.proofs.TryFacts.{left_cycle, none_too_long, product_some, right_longer}
 
@@ -221,6 +222,8 @@ module _ (kind : LineKind) (line : Line) (least most : ℕ) (h : Lowering) (ok :
       from = at_least_first;
       fresh = fresh;
       cycles = l.cycles;
+      goals = l.goals;
+      by_bound = l.by_bound;
       tight = l.tight;
     }
 
@@ -283,9 +286,10 @@ module _ (kind : LineKind) (line : Line) (least most : ℕ) (plan : Plan) (h : L
 -- the bounds of a certificate met, or they differ
 module _ (kind : LineKind) (line : Line) (least most : ℕ) (cert : EfficCert)
     (c : IsCertified kind line least most cert) where
-  pub met_is : (plan : Plan) → cert.trail ≡ None → cert.lower ≡ cert.upper → ArePaid line plan cert.entries
-      → IsSolved kind line least most plan cert
-  met_is plan none same paid =
+  pub met_is : (plan : Plan) (kept : ℕ) → cert.trail ≡ None → cert.lower ≡ cert.upper → ArePaid line plan cert.entries
+      → AreBrought line plan (most_ended line least (most + 1) cert.upper) kept cert.entries
+      → IsSolved kind line least most plan cert kept
+  met_is plan kept none same paid brought =
       let P : ℕ → Type 0 = λ z. NoneBelow kind line least most z in
       record {
         certified = c;
@@ -296,6 +300,7 @@ module _ (kind : LineKind) (line : Line) (least most : ℕ) (cert : EfficCert)
           least_one = subst P same c.true_bounds.none;
         };
         paid = paid;
+        brought = brought;
       }
 
   pub cut_is : (cert.lower ≡ cert.upper → ⊥) → IsCutShort kind line least most cert.lower cert.upper
@@ -316,7 +321,7 @@ module _ (kind : LineKind) (line : Line) (least most : ℕ) (cert : EfficCert)
 
 -- what a certificate of a search shows, where its bounds and lists are those of the search
 module _ (kind : LineKind) (line : Line) (least most : ℕ) (h : Lowering) (ok : IsLine line) (some : 1 ≤ least)
-    (cert : EfficCert) (c : IsCertified kind line least most cert) (upper : cert.upper ≡ product_of h)
+    (few : most ≤ 1024) (cert : EfficCert) (c : IsCertified kind line least most cert) (upper : cert.upper ≡ product_of h)
     (entries : cert.entries ≡ entries_of h) where
   lowest_here : IsLowest line (entries_of h) least (most + 1) (product_of h) cert.lower
   lowest_here =
@@ -325,8 +330,9 @@ module _ (kind : LineKind) (line : Line) (least most : ℕ) (h : Lowering) (ok :
       subst Q entries (subst P upper c.lowest)
 
   -- the entries are those that a search by the plan may have
-  pub paid_is : (plan : Plan) → IsLowering kind line least most h → IsPaid plan h → ArePaid line plan cert.entries
-  paid_is plan l p =
+  pub paid_is : (plan : Plan) (tries : ℕ) → IsLowering kind line least most h → IsPaid plan tries h
+      → ArePaid line plan cert.entries
+  paid_is plan tries l p =
       let U : List Entry → Type 0 = λ z. UnitsOf line z h.listed.units in
       let all : take (length (entries_of h)) (entries_of h) ≡ cert.entries =
       take-length (entries_of h) ∙ sym entries in
@@ -335,17 +341,56 @@ module _ (kind : LineKind) (line : Line) (least most : ℕ) (h : Lowering) (ok :
         counted = subst U all l.counted.units;
         within = p.units;
         short = omega (arith, p.entries, l.counted.entries, ap (λ (z : List Entry). others z) all);
-        many = omega (arith, p.many, ap (λ (z : List Entry). length z) entries);
+        bounded = omega (arith, c.by_bound, some, few);
+        many = omega (
+          arith,
+          all_listed cert.entries,
+          p.entries,
+          l.counted.entries,
+          ap (λ (z : List Entry). others z) all,
+          c.by_bound,
+          some,
+          few,
+        );
       }
 
+  -- and that so many tries may bring
+  brought_is : (plan : Plan) (tries now : ℕ) → now ≡ tries → IsLowering kind line least most h → IsPaid plan tries h
+      → AreBrought line plan now h.seeks.kept cert.entries
+  brought_is plan tries now is l p =
+      let U : List Entry → Type 0 = λ z. UnitsOf line z h.listed.units in
+      let T : ℕ → Type 0 = λ z. AreBrought line plan z h.seeks.kept cert.entries in
+      let all : take (length (entries_of h)) (entries_of h) ≡ cert.entries =
+      take-length (entries_of h) ∙ sym entries in
+      let same : others cert.entries ≡ h.listed.entries =
+      sym (l.counted.entries ∙ ap (λ (z : List Entry). others z) all) in
+      subst T (sym is) (record {
+        units = h.listed.units;
+        counted = subst U all l.counted.units;
+        within = p.within;
+        few = omega (arith, p.few, same);
+        short = omega (arith, p.short, same);
+      })
+
+  -- and that all tries may
+  pub brought_last : (plan : Plan) → IsLowering kind line least most h
+      → IsPaid plan (most_ended line least (most + 1) (product_of h)) h
+      → AreBrought line plan (most_ended line least (most + 1) cert.upper) h.seeks.kept cert.entries
+  brought_last plan l p =
+      brought_is plan (most_ended line least (most + 1) (product_of h)) (most_ended line least (most + 1) cert.upper)
+      (ap (λ (z : ℕ). most_ended line least (most + 1) z) upper) l p
+
   -- each number of stations is closed: both bounds meet
-  pub solved_is : cert.trail ≡ None → (plan : Plan) → IsGoing kind line least most (most + 1) h × IsPaid plan h
-      → IsSolved kind line least most plan cert
+  pub solved_is : cert.trail ≡ None → (plan : Plan)
+      → IsGoing kind line least most (most + 1) h × IsPaid plan (most_ended line least (most + 1) (product_of h)) h
+      → IsSolved kind line least most plan cert h.seeks.kept
   solved_is none plan (going, paid) =
       let meet : cert.lower ≡ product_of h =
       lowest_meets line (entries_of h) least (most + 1) (product_of h) cert.lower lowest_here
       (λ m from to. going.closed m from to) some in
-      met_is kind line least most cert c plan none (meet ∙ sym upper) (paid_is plan going.lowering paid)
+      met_is kind line least most cert c plan h.seeks.kept none (meet ∙ sym upper)
+      (paid_is plan (most_ended line least (most + 1) (product_of h)) going.lowering paid)
+      (brought_last plan going.lowering paid)
 
   left_below : (m X : ℕ) → IsLeftAt line least most m X h → cert.lower < cert.upper
   left_below m X left = omega (
@@ -366,8 +411,8 @@ module _ (kind : LineKind) (line : Line) (least most : ℕ) (h : Lowering) (ok :
   -- the book was too large
   pub large_is : IsRanked line → cert.trail ≡ None → (closing_from : ℕ) → closing_from ≡ length (entries_of h)
       → IsFresh (entries_of h) → IsDerived kind line (entries_of h) → (plan : Plan)
-      → IsDue kind line least most h × IsPaid plan h → IsLarge kind line least most plan cert closing_from
-  large_is ranked none closing_from from fresh derived plan (due, paid) =
+      → IsDue kind line least most plan h → IsLarge kind line least most plan cert closing_from h.seeks.kept
+  large_is ranked none closing_from from fresh derived plan due =
       let F : List Entry → Type 0 = λ z. IsFresh z in
       let U : List Entry → Type 0 = λ z. UnitsOf line z h.listed.units in
       let H : List Entry → Type 0 = λ z. HaveCycles line z in
@@ -375,13 +420,9 @@ module _ (kind : LineKind) (line : Line) (least most : ℕ) (h : Lowering) (ok :
       let all : take (length (entries_of h)) (entries_of h) ≡ cert.entries = whole ∙ sym entries in
       let same : others (entries_of h) ≡ h.listed.entries =
       sym (due.lowering.counted.entries ∙ ap (λ (z : List Entry). others z) whole) in
-      let large : (4000000 < h.listed.units) ⊎ (4000000 < others (entries_of h)) ⊎ (4999999 < length (entries_of h)) =
-      (elim due.large [
-        | inl u ↦ inl u
-        | inr r ↦ elim r [ inl n ↦ inr (inl (omega (arith, n, same))) | inr many ↦ inr (inr many) ]
-      ]) in
-      let L : List Entry → Type 0 =
-      λ z. (4000000 < h.listed.units) ⊎ (4000000 < others z) ⊎ (4999999 < length z) in
+      let large : (4000000 < h.listed.units) ⊎ (4000000 < others (entries_of h)) =
+      (elim due.large [ inl u ↦ inl u | inr n ↦ inr (omega (arith, n, same)) ]) in
+      let L : List Entry → Type 0 = λ z. (4000000 < h.listed.units) ⊎ (4000000 < others z) in
       record {
         certified = c;
         below = left_below due.m due.X due.left;
@@ -395,19 +436,21 @@ module _ (kind : LineKind) (line : Line) (least most : ℕ) (h : Lowering) (ok :
         counted = subst U all due.lowering.counted.units;
         large = subst L (sym entries) large;
         cycles = subst H (sym entries) due.lowering.cycles;
-        budget = large_budget kind line ok ranked (entries_of h) derived fresh due.lowering.cycles due.lowering.behind
-            h.listed.units
+        budget = large_budget kind line ok ranked (entries_of h) derived fresh due.lowering.cycles h.listed.units
             (subst U whole due.lowering.counted.units) large;
-        paid = paid_is plan due.lowering paid;
+        paid = paid_is plan (most_ended line least due.m (product_of h)) due.lowering due.paid;
+        brought = brought_is plan (most_ended line least due.m (product_of h))
+            (most_ended line least due.m cert.upper) (ap (λ (z : ℕ). most_ended line least due.m z) upper) due.lowering
+            due.paid;
       }
 
   -- the units of a try ended
   pub spent_is : IsRanked line → (plan : Plan) (frames : List OpenFrame) (trail : Trail)
       → trail ≡ record { cycle = h.book.about.cycle; frames = frames } → cert.trail ≡ Some trail
       → (closing_from : ℕ) → IsFresh (entries_of h) → IsDerived kind line (entries_of h)
-      → IsStuck kind line least most plan h frames closing_from × IsPaid plan h
-      → IsSpent kind line least most plan cert closing_from
-  spent_is ranked plan frames trail is has closing_from fresh derived (s, paid) =
+      → IsStuck kind line least most plan h frames closing_from
+      → IsSpent kind line least most plan cert closing_from h.seeks.kept
+  spent_is ranked plan frames trail is has closing_from fresh derived s =
       let X : ℕ = h.book.about.cycle in
       let t : Trail = record { cycle = X; frames = frames } in
       let es : List Entry = entries_of h in
@@ -464,20 +507,24 @@ module _ (kind : LineKind) (line : Line) (least most : ℕ) (h : Lowering) (ok :
         twice = s.twice;
         alone = s.alone;
         budget = omega (arith, few, s.all);
-        paid = paid_is plan s.lowering paid;
+        paid = paid_is plan (suc (most_ended line least s.m (product_of h))) s.lowering s.paid;
+        brought = brought_is plan (suc (most_ended line least s.m (product_of h)))
+            (suc (most_ended line least s.m cert.upper)) (ap (λ (z : ℕ). suc (most_ended line least s.m z)) upper)
+            s.lowering s.paid;
       }
 
 -- the certificate of a search that stopped is one of the question
 pub stopped_certified : (why : Ended) (kind : LineKind) (line : Line) (least most : ℕ) (plan : Plan) (cert : EfficCert)
-    (closing_from : ℕ) → StoppedBy why kind line least most plan cert closing_from
+    (closing_from kept : ℕ) → StoppedBy why kind line least most plan cert closing_from kept
     → IsCertified kind line least most cert
-stopped_certified ended.Units kind line least most plan cert closing_from s = s.certified
-stopped_certified ended.Size kind line least most plan cert closing_from s = s.certified
+stopped_certified ended.Units kind line least most plan cert closing_from kept s = s.certified
+stopped_certified ended.Size kind line least most plan cert closing_from kept s = s.certified
 
 -- with enough units no search stops
 pub never_stopped : (why : Ended) (kind : LineKind) (line : Line) (least most : ℕ) (plan : Plan) (cert : EfficCert)
-    (closing_from : ℕ) → StoppedBy why kind line least most plan cert closing_from → AreEnough kind line plan.units
-    → cert.lower ≡ cert.upper
-never_stopped ended.Units kind line least most plan cert closing_from s e =
+    (closing_from kept : ℕ) → StoppedBy why kind line least most plan cert closing_from kept
+    → AreEnough kind line plan.units → cert.lower ≡ cert.upper
+never_stopped ended.Units kind line least most plan cert closing_from kept s e =
     absurd (omega (arith, s.budget, e.units))
-never_stopped ended.Size kind line least most plan cert closing_from s e = absurd (omega (arith, s.budget, e.size))
+never_stopped ended.Size kind line least most plan cert closing_from kept s e =
+    absurd (omega (arith, s.budget, e.size))

@@ -8,7 +8,7 @@ use Rattle.line_rules.specs.Units.{UnitsBy, UnitsOf}
 use Rattle.line_rules.specs.declared.types.Entry.{Entry}
 use Rattle.line_rules.specs.declared.types.Why.{Why}
 use Rattle.line_rules.specs.declared.types.Why.TheVariants as why
-use Rattle.effic_search.specs.Counted.{other, others, IsCounted}
+use Rattle.effic_search.specs.Counted.{other, others, by_bound, bounds, IsCounted}
 use Rattle.effic_search.specs.declared.counting.Listed.{Listed}
 use Rattle.line_rules.proofs.Monotone.{entries_same}
 use Rattle.line_rules.proofs.ListFacts.{drop_next, take_next}
@@ -28,6 +28,25 @@ pub others_few : (es : List Entry) → others es ≤ length es
 others_few [] = omega arith
 others_few (e ∷ es) = omega (arith, other_few e.why, others_few es)
 
+-- an entry is by Bound or isn't
+one_of_both : (w : Why) → other w + by_bound w ≡ 1
+one_of_both why.Bound = refl
+one_of_both (why.Branch mode cites) = refl
+one_of_both (why.Swap cite out into) = refl
+one_of_both (why.Pairs two) = refl
+
+pub bound_few : (w : Why) → by_bound w ≤ 1
+bound_few w = omega (arith, one_of_both w)
+
+pub bounds_both : (xs ys : List Entry) → bounds (xs ++ ys) ≡ bounds xs + bounds ys
+bounds_both [] ys = omega arith
+bounds_both (x ∷ xs) ys = omega (arith, bounds_both xs ys)
+
+-- so the others and those by Bound are all
+pub all_listed : (es : List Entry) → length es ≡ others es + bounds es
+all_listed [] = refl
+all_listed (e ∷ es) = omega (arith, one_of_both e.why, all_listed es)
+
 module _ (line : Line) (es : List Entry) (k next : ℕ) (e : Entry) (g : slice_get es k ≡ Some e)
     (step : next ≡ suc k) where
   pub counted_next : (n u : ℕ) (l : Listed) → n ≡ other e.why → UnitsBy line e e.why u → IsCounted line es k l
@@ -45,6 +64,12 @@ module _ (line : Line) (es : List Entry) (k next : ℕ) (e : Entry) (g : slice_g
         );
         units = subst U (sym q) (units_both line (take k es) (e ∷ []) l.units u c.units (u, 0, (h, refl, omega arith)));
       }
+
+  -- the same of those by Bound
+  pub bounds_next : bounds (take next es) ≡ bounds (take k es) + by_bound e.why
+  bounds_next =
+      let q : take next es ≡ take k es ++ e ∷ [] = ap (λ (z : ℕ). take z es) step ∙ take_next es k e g in
+      omega (arith, ap (λ (z : List Entry). bounds z) q, bounds_both (take k es) (e ∷ []))
 
   -- the units of the entries that are left
   pub left_next : (rest u : ℕ) → UnitsOf line (drop k es) rest → UnitsBy line e e.why u

@@ -1,9 +1,9 @@
 -- How large a book can become: at each cycle its units are fewer than (n + 1) x 4^n, and so are its entries.
-use Rattle.std.proofs.Common.{◌≡◌, ℕ, zero, suc, ◌+◌, ◌*◌, ◌^◌, ◌<◌, ◌≤◌, ◌⊎◌, Bool, true, false, cond, max, List, []}
+use Rattle.std.proofs.Common.{◌≡◌, ℕ, suc, ◌+◌, ◌*◌, ◌^◌, ◌<◌, ◌≤◌, ◌⊎◌, Bool, true, false, cond, max, List, []}
 use Rattle.std.proofs.Common.{◌∷◌}
 use Rattle.std.proofs.Common.{length, refl, sym, ◌∙◌, subst, inl, inr, arith, Some, None}
-use Rattle.std.specs.Prelude.{◌≢◌, nat_eq, nat_lt, slice_get}
-use Rattle.std.proofs.lemmas.Bool.{cases_lt, cases_Bool, eqb-true, ltb-true, ltb-false}
+use Rattle.std.specs.Prelude.{◌≢◌, nat_eq, slice_get}
+use Rattle.std.proofs.lemmas.Bool.{cases_lt, cases_Bool, eqb-true}
 use Rattle.std.proofs.lemmas.List.{ext_get_or}
 use Rattle.std.proofs.Math.Nat.{mul-le-mul_left, mul-le-mul_right, pow-le-pow_left}
 use Rattle.line_instance.specs.Truths.{In, count}
@@ -31,7 +31,7 @@ use Rattle.budget_law.proofs.DistinctNumbers.{Has, Differ, few_below}
 use Rattle.budget_law.proofs.TripleCodes.{low, code, code_same, code_lt}
 use Rattle.budget_law.proofs.FewUnits.{units_few}
 use Rattle.effic_search.specs.Counted.{other, others}
-use Rattle.effic_search.specs.inner.Going.{HaveCycles, HaveCyclesBehind}
+use Rattle.effic_search.specs.inner.Going.{HaveCycles}
 use Rattle.effic_search.proofs.CycleSums.{SumOf, sum_few}
 use Rattle.effic_search.proofs.CountFacts.{other_few}
 
@@ -330,109 +330,9 @@ module _ (kind : LineKind) (line : Line) (ok : IsLine line) (ranked : IsRanked l
         (λ X short v y. omega (arith, others_length (entries_at X es) v y, entries_few X short)) (others es)
         (others_sum es)
 
-    -- 1 for a cycle from the longest time to the greater of 1 and the total
-    inside_by : (less more : Bool) → ℕ
-    inside_by true more = 0
-    inside_by false true = 0
-    inside_by false false = 1
-
-    inside : ℕ → ℕ
-    inside X = inside_by (nat_lt X longest) (nat_lt top X)
-
-    InsideOf : Entry → ℕ → Type 0
-    InsideOf e a = a ≡ inside e.cycle
-
-    by_few : (less more : Bool) → inside_by less more ≤ 1
-    unfolding inside_by
-    by_few true more = omega arith
-    by_few false true = omega arith
-    by_few false false = omega arith
-
-    inside_few : (X : ℕ) → inside X ≤ 1
-    unfolding inside
-    inside_few X = by_few (nat_lt X longest) (nat_lt top X)
-
-    by_within : (X a : ℕ) (less more : Bool) → nat_lt X longest ≡ less → nat_lt top X ≡ more → a ≡ inside_by less more
-        → (a ≡ 0) ⊎ ((longest ≤ X) × (X ≤ top))
-    unfolding inside_by
-    by_within X a true more p q z = inl z
-    by_within X a false true p q z = inl z
-    by_within X a false false p q z = inr (ltb-false X longest p, ltb-false top X q)
-
-    inside_within : (X a : ℕ) → a ≡ inside X → (a ≡ 0) ⊎ ((longest ≤ X) × (X ≤ top))
-    unfolding inside
-    inside_within X a z = by_within X a (nat_lt X longest) (nat_lt top X) refl refl z
-
-    by_one : (X : ℕ) (less more : Bool) → nat_lt X longest ≡ less → nat_lt top X ≡ more → longest ≤ X → X ≤ top
-        → inside_by less more ≡ 1
-    unfolding inside_by
-    by_one X true more p q from to = absurd (omega (arith, ltb-true X longest p, from))
-    by_one X false true p q from to = absurd (omega (arith, ltb-true top X q, to))
-    by_one X false false p q from to = refl
-
-    inside_one : (X : ℕ) → longest ≤ X → X ≤ top → inside X ≡ 1
-    unfolding inside
-    inside_one X from to = by_one X (nat_lt X longest) (nat_lt top X) refl refl from to
-
-    -- the entries from the number j on are inside
-    AreInside : ℕ → List Entry → Type 0
-    AreInside j xs = (k : ℕ) (e : Entry) → slice_get xs k ≡ Some e → j ≤ k → (longest ≤ e.cycle) × (e.cycle ≤ top)
-
-    -- so all entries are at most j more than those inside
-    inside_sum : (j : ℕ) (xs : List Entry) → AreInside j xs → (u : ℕ) × SumOf InsideOf xs u × (length xs ≤ u + j)
-    unfolding InsideOf AreInside
-    inside_sum j [] are = (0, refl, omega arith)
-    inside_sum zero (e ∷ xs) are =
-        let r : (u : ℕ) × SumOf InsideOf xs u × (length xs ≤ u + 0) =
-        inside_sum zero xs (λ k x g late. are (suc k) x g (omega arith)) in
-        let here = are 0 e refl (omega arith) in
-        let one : inside e.cycle ≡ 1 = inside_one e.cycle here.0 here.1 in
-        (inside e.cycle + r.0, (inside e.cycle, r.0, (refl, r.1, refl)), omega (arith, one, r.2))
-    inside_sum (suc j) (e ∷ xs) are =
-        let r : (u : ℕ) × SumOf InsideOf xs u × (length xs ≤ u + j) =
-        inside_sum j xs (λ k x g late. are (suc k) x g (omega (arith, late))) in
-        (inside e.cycle + r.0, (inside e.cycle, r.0, (refl, r.1, refl)), omega (arith, r.2))
-
-    inside_length : (xs : List Entry) (u : ℕ) → SumOf InsideOf xs u → u ≤ length xs
-    unfolding InsideOf
-    inside_length [] u z = omega (arith, z)
-    inside_length (e ∷ xs) u z =
-        omega (arith, z.2.2, z.2.0, inside_few e.cycle, inside_length xs z.1 z.2.1)
-
-    -- those of a cycle below the longest time weigh nothing
-    inside_step : (e : Entry) (X u : ℕ) (xs : List Entry) → X < longest → (b : Bool) → nat_eq e.cycle X ≡ b
-        → SumOf InsideOf (cond b (e ∷ xs) xs) u → ((v : ℕ) → SumOf InsideOf xs v → v ≡ 0) → u ≡ 0
-    unfolding InsideOf
-    inside_step e X u xs less true p z rest = elim (inside_within e.cycle z.0 z.2.0) [
-      | inl q ↦ omega (arith, q, z.2.2, rest z.1 z.2.1)
-      | inr o ↦ absurd (omega (arith, eqb-true e.cycle X p, o.0, less))
-    ]
-    inside_step e X u xs less false p z rest = rest u z
-
-    inside_none : (X u : ℕ) (xs : List Entry) → X < longest → SumOf InsideOf (entries_at X xs) u → u ≡ 0
-    inside_none X u [] less z = z
-    inside_none X u (e ∷ xs) less z =
-        inside_step e X u (entries_at X xs) less (nat_eq e.cycle X) refl z (λ v y. inside_none X v xs less y)
-
-    -- where those behind the first 1,024 are inside, all are few
-    all_few : HaveCyclesBehind line es → length es ≤ top * space line + 1024
-    unfolding InsideOf AreInside
-    all_few behind =
-        let r : (u : ℕ) × SumOf InsideOf es u × (length es ≤ u + 1024) = inside_sum 1024 es behind in
-        let a : r.0 ≤ top * space line = sum_few InsideOf es top (space line) (λ k e g. (derived k e g).cycle)
-        (λ k e a g w. elim (inside_within e.cycle a w) [ inl q ↦ inl q | inr o ↦ inr o.1 ])
-        (λ X some to v y. elim (cases_lt X longest) [
-          | inl less ↦ omega (arith, inside_none X v es less y)
-          | inr from ↦
-              omega (arith, inside_length (entries_at X es) v y, entries_few X (none_long_from X from))
-        ]) r.0 r.1 in
-        omega (arith, a, r.2)
-
     -- where the book is too large, the line is large
-    pub large_budget : HaveCyclesBehind line es → (u : ℕ) → UnitsOf line es u
-        → (4000000 < u) ⊎ (4000000 < others es) ⊎ (4999999 < length es)
+    pub large_budget : (u : ℕ) → UnitsOf line es u → (4000000 < u) ⊎ (4000000 < others es)
         → 4000000 < (tasks line + 1) * 4 ^ tasks line * top
     unfolding space
-    large_budget behind u h (inl l) = omega (arith, l, all_units_few u h)
-    large_budget behind u h (inr (inl l)) = omega (arith, l, all_others_few)
-    large_budget behind u h (inr (inr l)) = omega (arith, l, all_few behind)
+    large_budget u h (inl l) = omega (arith, l, all_units_few u h)
+    large_budget u h (inr l) = omega (arith, l, all_others_few)

@@ -6,7 +6,6 @@ use Rattle.std.proofs.Common.{subst, inl, inr, arith, true, Option, Some, None, 
 use Rattle.std.specs.Prelude.{slice_get, nat_eq, ◌&&◌}
 use Rattle.std.proofs.lemmas.Bool.{cases_eq, and_from}
 use Rattle.std.proofs.lemmas.List.{get_or-replicate}
-use Rattle.std.proofs.lemmas.Option.{slice_get_within}
 use Rattle.std.proofs.Math.Seq.{take-length}
 use Rattle.line_instance.specs.Truths.{In}
 use Rattle.line_instance.proofs.Members.{In-full_to_below}
@@ -35,12 +34,13 @@ use Rattle.cycle_search.specs.rounds.declared.plans.Plan.{Plan}
 use Rattle.cycle_search.proofs.SeekFacts.{seeks_none}
 use Rattle.cycle_search.specs.Ends.{NoneApart, first_lower, first_upper, at_first}
 use Rattle.cycle_search.proofs.EndFacts.{first_right}
-use Rattle.effic_search.specs.Counted.{other, others, IsCounted}
+use Rattle.effic_search.specs.Counted.{AreGoalsByBound, other, others, IsCounted}
 use Rattle.effic_search.specs.inner.Going.{IsFloored, IsTight, IsGoing, IsPaid}
 use Rattle.effic_search.specs.inner.Opening.{IsGoalByBound, AddsGoal, IsFirstBook}
 use Rattle.effic_search.specs.Since.{IsSinceGoal}
 use Rattle.effic_search.specs.declared.counting.Listed.{Listed}
 use Rattle.effic_search.specs.declared.lowering.Lowering.{Lowering}
+use Rattle.effic_search.proofs.CountFacts.{all_listed}
 use Rattle.effic_search.proofs.SinceFacts.{since_goal, since_none, since_other}
 use Rattle.line_rules.proofs.LongerLists.{has_longer}
 use Rattle.line_rules.proofs.ListUnits.{units_both}
@@ -109,11 +109,13 @@ first_none kind line least b about none reserved =
     let S : List Entry → Type 0 = λ z. (X : ℕ) → IsSinceGoal line X z [] in
     let U : List Entry → Type 0 = λ z. UnitsOf line z 0 in
     let B : List Entry → Type 0 = λ z. (k : ℕ) (e : Entry) → slice_get z k ≡ Some e → e.why ≡ why.Bound in
+    let G : List Entry → Type 0 = λ z. AreGoalsByBound line z in
     record {
       about = about;
       reserved = reserved;
       clear = subst S (sym none) (λ X. since_none line X);
       bounds = subst B (sym none) (λ k e g. absurd (cc));
+      goals = subst G (sym none) (λ k e g. absurd (cc));
       none = ap (λ (z : List Entry). others z) none;
       units = subst U (sym none) refl;
       few = omega (arith, ap (λ (z : List Entry). length z) none);
@@ -130,11 +132,13 @@ module _ (kind : LineKind) (line : Line) (least m next : ℕ) (old new : BookVie
       let U : List Entry → Type 0 = λ z. UnitsOf line z 0 in
       let B : List Entry → Type 0 = λ z. (k : ℕ) (e : Entry) → slice_get z k ≡ Some e → e.why ≡ why.Bound in
       let F : List Entry → Type 0 = λ z. (s : ℕ) → least ≤ s → s < m → IsFloored line z s in
+      let G : List Entry → Type 0 = λ z. AreGoalsByBound line z in
       record {
         about = about ∙ h.about;
         reserved = reserved;
         clear = subst S (sym q) h.clear;
         bounds = subst B (sym q) h.bounds;
+        goals = subst G (sym q) h.goals;
         none = ap (λ (z : List Entry). others z) q ∙ h.none;
         units = subst U (sym q) h.units;
         few = omega (arith, h.few, step, ap (λ (z : List Entry). length z) q);
@@ -153,6 +157,7 @@ module _ (kind : LineKind) (line : Line) (least m next : ℕ) (old new : BookVie
       let U : List Entry → Type 0 = λ z. UnitsOf line z 0 in
       let B : List Entry → Type 0 = λ z. (k : ℕ) (x : Entry) → slice_get z k ≡ Some x → x.why ≡ why.Bound in
       let F : List Entry → Type 0 = λ z. (s : ℕ) → least ≤ s → s < m → IsFloored line z s in
+      let G : List Entry → Type 0 = λ z. AreGoalsByBound line z in
       let W : Why → Type 0 = λ z. other z ≡ 0 in
       let zero_one : other e.why ≡ 0 = subst W (sym goal.1) refl in
       record {
@@ -165,6 +170,10 @@ module _ (kind : LineKind) (line : Line) (least m next : ℕ) (old new : BookVie
         bounds = subst B (sym q) (λ k x g. elim (get_append_cases es (e ∷ []) k x g) [
           | inl a ↦ h.bounds k x a
           | inr b ↦ one_bound b.0 x b.1
+        ]);
+        goals = subst G (sym q) (λ k x g why. elim (get_append_cases es (e ∷ []) k x g) [
+          | inl a ↦ h.goals k x a why
+          | inr b ↦ one_goal b.0 x b.1
         ]);
         none = ap (λ (z : List Entry). others z) q
             ∙ omega (arith, others_more es, h.none, zero_one);
@@ -189,6 +198,12 @@ module _ (kind : LineKind) (line : Line) (least m next : ℕ) (old new : BookVie
           let s : e ≡ x = cc in
           ap (λ (z : Entry). z.why) (sym s) ∙ goal.1
       one_bound (suc k) x g = absurd (cc)
+
+      one_goal : (k : ℕ) (x : Entry) → slice_get (e ∷ []) k ≡ Some x → x.set ≡ all_tasks line
+      one_goal zero x g =
+          let s : e ≡ x = cc in
+          ap (λ (z : Entry). z.set) (sym s) ∙ goal.0
+      one_goal (suc k) x g = absurd (cc)
 
       others_more : (xs : List Entry) → others (xs ++ e ∷ []) ≡ others xs + other e.why
       others_more [] = omega arith
@@ -256,19 +271,22 @@ going_begins kind line least most h ok none some order few book cycle limit bala
         within = omega (arith, ap (λ (z : Listed). z.units) listed);
         floored = λ m from to. book.floored m from (omega (arith, to));
         cycles = λ k e g other. absurd (other (book.bounds k e g));
-        behind = λ k e g late. absurd (omega (arith, late, slice_get_within es k e g, book.few, some, few));
+        goals = book.goals;
+        by_bound = omega (arith, all_listed es, book.few, order);
       };
       clear = λ X one near. book.clear X;
       closed = λ s from to. absurd (omega (arith, from, to));
+      bounded = omega (arith, all_listed es, book.few);
     }
 
--- before its first try a search has no seek, no units, and entries by Bound alone
-pub none_taken : (kind : LineKind) (line : Line) (least most : ℕ) (h : Lowering) → most ≤ 1024
-    → IsFirstBook kind line least (most + 1) h.book → h.seeks ≡ record { used = 0; most = 0; kept = 0 }
-    → h.listed ≡ record { entries = 0; units = 0 } → (plan : Plan) → IsPaid plan h
-none_taken kind line least most h few book seeks listed plan = record {
+-- before its first try a search has no seek, no units, and no entry other than by Bound
+pub none_taken : (h : Lowering) → h.seeks ≡ record { used = 0; most = 0; kept = 0 }
+    → h.listed ≡ record { entries = 0; units = 0 } → (plan : Plan) (tries : ℕ) → IsPaid plan tries h
+none_taken h seeks listed plan tries = record {
   seeks = seeks_none plan h.seeks seeks;
   units = omega (arith, ap (λ (z : Listed). z.units) listed);
   entries = omega (arith, ap (λ (z : Listed). z.entries) listed);
-  many = omega (arith, book.few, few);
+  within = omega (arith, ap (λ (z : Listed). z.units) listed);
+  few = omega (arith, ap (λ (z : Listed). z.entries) listed);
+  short = omega (arith, ap (λ (z : Listed). z.entries) listed);
 }

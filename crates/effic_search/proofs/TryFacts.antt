@@ -1,8 +1,7 @@
 -- What a try does to a search: it goes on, its units ended, or memory did.
-use Rattle.std.proofs.Common.{◌≡◌, ℕ, ◌+◌, ◌-◌, ◌*◌, ◌^◌, ◌<◌, ◌≤◌, ◌⊎◌, List, [], length}
+use Rattle.std.proofs.Common.{◌≡◌, ℕ, suc, ◌+◌, ◌-◌, ◌*◌, ◌^◌, ◌<◌, ◌≤◌, List, [], length}
 use Rattle.std.proofs.Common.{refl}
-use Rattle.std.proofs.Common.{sym, ap, ◌∙◌, subst, inl, inr, arith, Some}
-use Rattle.std.specs.Prelude.{slice_get}
+use Rattle.std.proofs.Common.{sym, ap, ◌∙◌, subst, inl, inr, arith}
 use Rattle.std.proofs.lemmas.Bool.{cases_eq, cases_lt}
 use Rattle.std.proofs.lemmas.Nat.{mul-le}
 use Rattle.std.proofs.Math.Nat.{mul-le-mul_left, lt_of_mul-lt-mul_left}
@@ -22,8 +21,8 @@ use Rattle.cycle_search.specs.Ends.{first_lower, first_upper}
 use Rattle.cycle_search.proofs.EndFacts.{none_long}
 use Rattle.cycle_search.proofs.Tries.{widened_right}
 use Rattle.effic_check.specs.Accepted.{IsClosed, cycle_below}
-use Rattle.effic_search.specs.Counted.{IsCounted}
-use Rattle.effic_search.specs.inner.Going.{IsFloored, HaveCycles, HaveCyclesBehind, IsLowering, IsGoing, IsLeftAt}
+use Rattle.effic_search.specs.Counted.{AreGoalsByBound, IsCounted, bounds, most_ended}
+use Rattle.effic_search.specs.inner.Going.{IsFloored, HaveCycles, IsLowering, IsGoing, IsLeftAt}
 use Rattle.effic_search.specs.inner.Going.{IsImproved, IsTight}
 use Rattle.effic_search.specs.inner.Going.{IsSettled, product_of, entries_of}
 use Rattle.effic_search.specs.declared.settling.Settled.{Settled}
@@ -91,6 +90,16 @@ module _ (kind : LineKind) (line : Line) (least most m X : ℕ) where
       (first_upper line) from (omega arith) in
       lt_of_mul-lt-mul_left m (omega (arith, near, l.first, a))
 
+-- a try that lowered the product has ended
+pub ended_less : (line : Line) (least m P Q : ℕ) → P < Q → Q ≤ least * first_upper line
+    → suc (most_ended line least m Q) ≤ most_ended line least m P
+ended_less line least m P Q less first = omega (arith, less, first)
+
+-- and so has one that closed its number of stations
+pub ended_next : (line : Line) (least m P Q : ℕ) → P ≡ Q → least ≤ m
+    → suc (most_ended line least m Q) ≤ most_ended line least (m + 1) P
+ended_next line least m P Q same from = omega (arith, same, from)
+
 -- the product of a search is at least 1
 pub product_some : (kind : LineKind) (line : Line) (least most : ℕ) (h : Lowering) → 1 ≤ least
     → IsLowering kind line least most h → 1 ≤ product_of h
@@ -134,15 +143,8 @@ closed_going kind line least most m h going here = record {
     | inl e ↦ (let P : ℕ → Type 0 = λ z. IsClosed line (entries_of h) (product_of h) z in subst P (sym e) here)
     | inr n ↦ going.closed s from (omega (arith, to, n))
   ];
+  bounded = omega (arith, going.bounded);
 }
-
--- a book is too large, where so many entries are counted
-pub large_book : (h : Lowering) (count : ℕ) → count ≡ length (entries_of h)
-    → (4000000 < h.listed.units) ⊎ (4000000 < h.listed.entries) ⊎ (4999999 < count)
-    → (4000000 < h.listed.units) ⊎ (4000000 < h.listed.entries) ⊎ (4999999 < length (entries_of h))
-large_book h count is large =
-    let P : ℕ → Type 0 = λ z. (4000000 < h.listed.units) ⊎ (4000000 < h.listed.entries) ⊎ (4999999 < z) in
-    subst P is large
 
 -- what stopped a search stopped it, whichever number of stations was the last
 pub settled_last : (kind : LineKind) (line : Line) (least most m last : ℕ) (plan : Plan) (v : Settled)
@@ -181,13 +183,16 @@ module _ (kind : LineKind) (line : Line) (least most m X : ℕ) (old new : Lower
   same_entries : entries_of old ≡ entries_of new
   same_entries = ap (λ (z : BookView). z.state.entries) (sym i.book)
 
+  bounds_new : bounds (entries_of new) ≡ bounds (entries_of old)
+  bounds_new = ap (λ (z : List Entry). bounds z) (sym same_entries)
+
   improved_lowering : IsLowering kind line least most new
   improved_lowering =
       let C : Listed → Type 0 = λ z. IsCounted line (entries_of old) (length (entries_of old)) z in
       let D : List Entry → Type 0 = λ z. IsCounted line z (length z) new.listed in
       let F : List Entry → Type 0 = λ z. (s : ℕ) → least ≤ s → s ≤ most → IsFloored line z s in
       let H : List Entry → Type 0 = λ z. HaveCycles line z in
-      let B : List Entry → Type 0 = λ z. HaveCyclesBehind line z in
+      let G : List Entry → Type 0 = λ z. AreGoalsByBound line z in
       let R : BookView → Type 0 = λ z. IsReserved z in
       let u : X < first_upper line = below_upper kind line least most m X old l from near in
       record {
@@ -207,13 +212,14 @@ module _ (kind : LineKind) (line : Line) (least most m X : ℕ) (old new : Lower
         within = omega (arith, l.within, ap (λ (z : Listed). z.units) i.listed);
         floored = subst F same_entries l.floored;
         cycles = subst H same_entries l.cycles;
-        behind = subst B same_entries l.behind;
+        goals = subst G same_entries l.goals;
+        by_bound = omega (arith, l.by_bound, bounds_new);
       }
 
   pub improved_going : ((Y : ℕ) → 1 ≤ Y → Y < X → IsSinceGoal line Y (entries_of old) [])
       → ((s : ℕ) → least ≤ s → s < m → IsClosed line (entries_of old) (product_of old) s) → 1 ≤ least
-      → IsGoing kind line least most m new
-  improved_going clear closed some = record {
+      → bounds (entries_of old) + 2 * least ≤ most + 1 + m → IsGoing kind line least most m new
+  improved_going clear closed some bounded = record {
     lowering = improved_lowering;
     clear = λ Y one less.
         let S : List Entry → Type 0 = λ z. IsSinceGoal line Y z [] in
@@ -223,6 +229,7 @@ module _ (kind : LineKind) (line : Line) (least most m X : ℕ) (old new : Lower
         let Z : List Entry → Type 0 = λ z. IsClosed line z (product_of new) s in
         subst Z same_entries (closed_less line (entries_of old) (product_of new) (product_of old) s
         (omega (arith, some, low)) (omega (arith, product_less)) (closed s low high));
+    bounded = omega (arith, bounded, bounds_new);
   }
 
 -- the ranked balance has few enough stations
@@ -234,6 +241,6 @@ ranked_going kind line least most m X old new some going left i = (
       (λ Y one less.
       let a : m * Y ≤ m * X = mul-le-mul_left m (omega (arith, less)) in
       going.clear Y one (omega (arith, a, left.near)))
-      going.closed some,
+      going.closed some going.bounded,
   product_less kind line least most m X old new left.from left.to going.lowering left.near i,
 )

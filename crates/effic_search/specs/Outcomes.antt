@@ -1,5 +1,5 @@
 -- What a search for the least product of stations and cycle comes to.
-use Rattle.std.specs.Prelude.{◌≡◌, ◌≢◌, ◌⊎◌, ℕ, ◌+◌, ◌*◌, ◌^◌, ◌<◌, ◌≤◌, max, List, ◌++◌}
+use Rattle.std.specs.Prelude.{◌≡◌, ◌≢◌, ◌⊎◌, ℕ, suc, ◌+◌, ◌*◌, ◌^◌, ◌<◌, ◌≤◌, max, List, ◌++◌}
 use Rattle.std.specs.Prelude.{length, slice_get}
 use Rattle.std.specs.Prelude.{Some, None}
 use Rattle.line_instance.specs.Line.{Line, tasks}
@@ -22,7 +22,7 @@ use Rattle.line_rules.specs.Products.{IsSayable}
 use Rattle.line_rules.specs.declared.products.EfficCert.{EfficCert}
 use Rattle.effic_check.specs.Accepted.{IsAccepted}
 use Rattle.effic_check.specs.Truth.{IsBetween, IsLeastProduct}
-use Rattle.effic_search.specs.Counted.{others, AreFew, ArePaid, IsWithin}
+use Rattle.effic_search.specs.Counted.{others, bounds, AreFew, AreGoalsByBound, ArePaid, AreBrought, IsWithin, most_ended}
 use Rattle.effic_search.specs.Lowest.{IsLowest, IsAtLeastFirst}
 use Rattle.effic_search.specs.NextTry.{IsNextTry}
 use Rattle.effic_search.specs.Since.{IsSinceGoal}
@@ -35,8 +35,8 @@ use Rattle.effic_search.specs.declared.searching.EfficOutcome.TheVariants as out
 -- with so many units, which are few enough for the default steps of the check. Its bounds are true. The upper one is no
 -- greater than the product of all tasks at the first of the fewest stations; the lower one is the one that its entries
 -- show, and at least the one that the times alone show. No entry is answered by an earlier one, and each that isn't by
--- Bound has a cycle from the longest time to the greater of 1 and the total. At no cycle from 1 on below its own its
--- balance is right.
+-- Bound has a cycle from the longest time to the greater of 1 and the total. Each that is by Bound is of all tasks, and
+-- there are at most two for each number of stations. At no cycle from 1 on below its own its balance is right.
 pub record IsCertified (kind : LineKind) (line : Line) (least most : ℕ) (cert : EfficCert) : Type 0 where
   pub kind_is : cert.kind ≡ kind
   pub least_is : cert.least_m ≡ least
@@ -52,16 +52,20 @@ pub record IsCertified (kind : LineKind) (line : Line) (least most : ℕ) (cert 
   pub fresh : IsFresh cert.entries
   pub cycles : (k : ℕ) (e : Entry) → slice_get cert.entries k ≡ Some e → e.why ≢ why.Bound
       → (longest_of line (all_tasks line) ≤ e.cycle) × (e.cycle ≤ max (total_time line) 1)
+  pub goals : AreGoalsByBound line cert.entries
+  pub by_bound : bounds cert.entries + 2 * least ≤ 2 * (most + 1)
   pub tight : (c : ℕ) → 1 ≤ c → IsRight kind line c cert.balance → cert.cycle ≤ c
 
 -- The certificate of the least product: both its bounds are it, and it has no trail. Its entries are those that a search
--- by the plan may have.
-pub record IsSolved (kind : LineKind) (line : Line) (least most : ℕ) (plan : Plan) (cert : EfficCert) : Type 0 where
+-- by the plan may have, and that its tries may bring, where so many entries were kept of their seeks.
+pub record IsSolved (kind : LineKind) (line : Line) (least most : ℕ) (plan : Plan) (cert : EfficCert) (kept : ℕ)
+    : Type 0 where
   pub certified : IsCertified kind line least most cert
   pub meet : cert.lower ≡ cert.upper
   pub none : cert.trail ≡ None
   pub least_one : IsLeastProduct kind line least most cert.upper
   pub paid : ArePaid line plan cert.entries
+  pub brought : AreBrought line plan (most_ended line least (most + 1) cert.upper) kept cert.entries
 
 -- The N units of a try ended, and one more load was needed: the bounds differ. The trail is at the tried cycle X, which
 -- is that of the next try, valid from its question, in fewer stations than tasks, and open over the entries, which are
@@ -69,9 +73,10 @@ pub record IsSolved (kind : LineKind) (line : Line) (least most : ℕ) (plan : P
 -- room: none where the plan has no seek. From the number `closing_from` on stand others of cycle X. These and the trail
 -- have at least N units, at most 2N, and exactly N where there are no helpers. Where the plan has no seek, they are the
 -- entries of cycle X behind the last one of all tasks at X. N is below what the budget law allows. All entries are those
--- that a search by the plan may have. (Own.)
+-- that a search by the plan may have, and that its tries, of which the last one hasn't ended, may bring, where so many
+-- entries were kept of their seeks. (Own.)
 pub record IsSpent (kind : LineKind) (line : Line) (least most : ℕ) (plan : Plan) (cert : EfficCert)
-    (closing_from : ℕ) : Type 0 where
+    (closing_from kept : ℕ) : Type 0 where
   pub certified : IsCertified kind line least most cert
   pub below : cert.lower < cert.upper
   pub trail : Trail
@@ -100,14 +105,16 @@ pub record IsSpent (kind : LineKind) (line : Line) (least most : ℕ) (plan : Pl
   pub alone : plan.helpers ≡ 0 → published + listed ≡ plan.units
   pub budget : plan.units < (tasks line + 1) * states kind ^ tasks line
   pub paid : ArePaid line plan cert.entries
+  pub brought : AreBrought line plan (suc (most_ended line least stations cert.upper)) kept cert.entries
 
 -- A next try was due, and the book was too large for it: the bounds differ. The entries, which are fresh, have more than
--- 4,000,000 units, or more than 4,000,000 of them aren't by Bound, or there are more than 4,999,999 of them. Each that
--- isn't by Bound has a cycle from the longest time to the greater of 1 and the total. So the line is large: of n tasks,
--- (n + 1) x 4^n times the greater of 1 and the total is more than 4,000,000. No round stopped, so all entries stand
--- before `closing_from`. They are those that a search by the plan may have. (Own.)
+-- 4,000,000 units, or more than 4,000,000 of them aren't by Bound. Each that isn't by Bound has a cycle from the longest
+-- time to the greater of 1 and the total. So the line is large: of n tasks, (n + 1) x 4^n times the greater of 1 and the
+-- total is more than 4,000,000. No round stopped, so all entries stand before `closing_from`. They are those that a
+-- search by the plan may have, and that the tries that ended may bring, where so many entries were kept of their seeks.
+-- So the search doesn't stop before a try has ended. (Own.)
 pub record IsLarge (kind : LineKind) (line : Line) (least most : ℕ) (plan : Plan) (cert : EfficCert)
-    (closing_from : ℕ) : Type 0 where
+    (closing_from kept : ℕ) : Type 0 where
   pub certified : IsCertified kind line least most cert
   pub below : cert.lower < cert.upper
   pub none : cert.trail ≡ None
@@ -118,17 +125,19 @@ pub record IsLarge (kind : LineKind) (line : Line) (least most : ℕ) (plan : Pl
   pub fresh : IsFresh cert.entries
   pub units : ℕ
   pub counted : UnitsOf line cert.entries units
-  pub large : (4000000 < units) ⊎ (4000000 < others cert.entries) ⊎ (4999999 < length cert.entries)
+  pub large : (4000000 < units) ⊎ (4000000 < others cert.entries)
   pub cycles : (k : ℕ) (e : Entry) → slice_get cert.entries k ≡ Some e → e.why ≢ why.Bound
       → (longest_of line (all_tasks line) ≤ e.cycle) × (e.cycle ≤ max (total_time line) 1)
   pub budget : 4000000 < (tasks line + 1) * 4 ^ tasks line * max (total_time line) 1
   pub paid : ArePaid line plan cert.entries
+  pub brought : AreBrought line plan (most_ended line least stations cert.upper) kept cert.entries
 
--- why a search stopped, and what its certificate has then
-abbrev pub StoppedBy : Ended → LineKind → Line → ℕ → ℕ → Plan → EfficCert → ℕ → Type 0
-StoppedBy ended.Units kind line least most plan cert closing_from =
-    IsSpent kind line least most plan cert closing_from
-StoppedBy ended.Size kind line least most plan cert closing_from = IsLarge kind line least most plan cert closing_from
+-- why a search stopped, and what its certificate has then, where so many entries were kept of its seeks
+abbrev pub StoppedBy : Ended → LineKind → Line → ℕ → ℕ → Plan → EfficCert → ℕ → ℕ → Type 0
+StoppedBy ended.Units kind line least most plan cert closing_from kept =
+    IsSpent kind line least most plan cert closing_from kept
+StoppedBy ended.Size kind line least most plan cert closing_from kept =
+    IsLarge kind line least most plan cert closing_from kept
 
 -- Memory ended after the first balance: the bounds are true and differ. The upper one is no greater than the product of
 -- all tasks at the first of the fewest stations. The lower one is the one that some entries show, of which each follows
@@ -153,8 +162,8 @@ pub record AreEnough (kind : LineKind) (line : Line) (N : ℕ) : Type 0 where
 -- book was too large for a try, or memory ended. The seeks are those of the plan. Out of memory is free.
 abbrev pub Lowers : LineKind → Line → ℕ → ℕ → Plan → EfficOutcome → Type 0
 Lowers kind line least most plan (outcome.Solved cert seeks) =
-    IsSolved kind line least most plan cert × AreSeeks plan seeks
+    IsSolved kind line least most plan cert seeks.kept × AreSeeks plan seeks
 Lowers kind line least most plan (outcome.Stopped why cert closing_from seeks) =
-    StoppedBy why kind line least most plan cert closing_from × AreSeeks plan seeks
+    StoppedBy why kind line least most plan cert closing_from seeks.kept × AreSeeks plan seeks
 Lowers kind line least most plan (outcome.Memory lower upper) = IsCutShort kind line least most lower upper
 Lowers kind line least most plan outcome.NoMemory = Unit {0}

@@ -2,14 +2,16 @@
 //!
 //! Entries are counted once, as the book gains them. The loads of an entry by Branch are listed once more for its
 //! units. The lower bound takes one pass over the entries for each number of stations, and is made once.
-ghost use Rattle.std.specs.Prelude.{◌≡◌, ◌+◌, ◌*◌, ◌≤◌, ◌<◌, ◌^◌, ℕ, length, drop, true, false, slice_get, Some};
+ghost use Rattle.std.specs.Prelude.{◌≡◌, ◌+◌, ◌*◌, ◌≤◌, ◌<◌, ◌^◌, ℕ, length, take, drop, true, false};
+ghost use Rattle.std.specs.Prelude.{slice_get, Some};
 ghost use Rattle.line_rules.specs.Balance.{all_tasks};
 ghost use Rattle.line_rules.specs.Entries.{Follows, IsDerived, HasAnswer};
 ghost use Rattle.line_rules.specs.Ranges.{IsCycle};
 ghost use Rattle.line_rules.specs.Units.{UnitsBy, UnitsOf};
 ghost use Rattle.line_rules.specs.declared.types.Entry.{Entry as Said};
+ghost use Rattle.line_rules.specs.declared.types.Why.TheVariants as why;
 ghost use Rattle.lemma_core.specs.Own.{AreStatable};
-ghost use Rattle.effic_search.specs.Counted.{IsCounted, other};
+ghost use Rattle.effic_search.specs.Counted.{IsCounted, bounds, by_bound, other};
 ghost use Rattle.effic_search.specs.inner.Going.{EndsWith};
 ghost use Rattle.effic_search.specs.Lowest.{IsGreatestRefuted, IsLowest};
 
@@ -81,6 +83,46 @@ pub(crate) fn counted(
         };
     }
     all
+}
+
+/// 1 for the reason Bound.
+fn bounded(why: &Why) -> u64
+    ensures { result ≡ by_bound why.now }
+{
+    match why {
+        Why::Bound => 1,
+        Why::Branch { .. } | Why::Swap { .. } | Why::Pairs { .. } => 0,
+    }
+}
+
+/// Whether an entry is by Bound, of other tasks than all.
+fn is_stray(entry: &Entry, all: &TaskSet) -> bool
+    ensures { result ≡ false → entry.now.why ≡ why.Bound → entry.now.set ≡ all.now }
+{
+    match entry.why {
+        Why::Bound => entry.set != *all,
+        Why::Branch { .. } | Why::Swap { .. } | Why::Pairs { .. } => false,
+    }
+}
+
+/// Whether, from number `from` on, an entry by Bound isn't of all tasks, or more than so many are by Bound. One pass over
+/// the entries from there on.
+pub(crate) fn has_stray_bound(inst: &Instance, entries: &Entries, from: usize, most: u64) -> bool
+    requires from { from ≤ length entries.now }
+    ensures goals { result ≡ false → (k : ℕ) (e : Said) → from ≤ k → slice_get entries.now k ≡ Some e
+        → e.why ≡ why.Bound → e.set ≡ all_tasks inst.now }
+    ensures few { result ≡ false → bounds entries.now ≤ bounds (take from entries.now) + most }
+{
+    let all = inst.all();
+    let mut found = 0;
+    for k in from..entries.len() {
+        let entry = entries.at(k);
+        if is_stray(entry, &all) {
+            return true;
+        }
+        found += bounded(&entry.why);
+    }
+    found > most
 }
 
 /// Whether an entry refutes all tasks in so many stations at a cycle, or the cycle is 0. One pass over the entries.

@@ -1,5 +1,5 @@
 //! The first balance and the first book of a search.
-ghost use Rattle.std.specs.Prelude.{◌≡◌, ◌≤◌, IfOk, OnOk};
+ghost use Rattle.std.specs.Prelude.{◌≡◌, ◌≤◌, ℕ, IfOk, OnOk};
 ghost use Rattle.lemma_core.specs.Books.{IsReserved};
 ghost use Rattle.cycle_search.specs.rounds.declared.plans.Plan.{Plan as Planned};
 ghost use Rattle.effic_check.specs.Accepted.{NoneApart};
@@ -49,7 +49,7 @@ pub(crate) fn begin(alloc: Global, inst: &Instance, wanted: Wanted) -> Result<Lo
     requires order { wanted.least ≤ wanted.most }
     requires few { wanted.most ≤ 1024 }
     ensures going { IfOk result (IsGoing wanted.kind inst.now wanted.least wanted.most wanted.least) }
-    ensures paid { IfOk result (λ h. (plan : Planned) → IsPaid plan h) }
+    ensures paid { IfOk result (λ h. (plan : Planned) → (tries : ℕ) → IsPaid plan tries h) }
 {
     let _tasks = inst.tasks();
     let ends = first_ends(inst, wanted.least);

@@ -1,7 +1,8 @@
 //! All tries at one number of stations, until no smaller product is left open there.
 ghost use Rattle.std.specs.Prelude.{◌≡◌, ◌≤◌, ◌<◌, ◌⊎◌, true, false, IfOk};
 ghost use Rattle.cycle_search.specs.rounds.Plans.{IsPlan};
-ghost use Rattle.effic_search.specs.inner.Going.{IsGoing, IsPaid, IsSettled};
+ghost use Rattle.effic_search.specs.Counted.{most_ended};
+ghost use Rattle.effic_search.specs.inner.Going.{IsGoing, IsPaid, IsSettled, product_of};
 
 use crate::counting::{Listed, is_closed};
 use crate::lowering::{Lowering, Wanted};
@@ -14,13 +15,9 @@ use std::sync::Wait;
 use std::thread::Threads;
 
 /// The most entries other than those by Bound with which a try is made, and the most units of the entries. So the check
-/// of what a search writes stays well within its 20,000,000 steps.
+/// of what a search writes stays well within its 20,000,000 steps, and with those by Bound the text is within the 4 GiB
+/// that the check reads.
 const MOST: u64 = 4_000_000;
-
-/// The most entries of a book with which a try is made, those by Bound too: with more the text of the certificate might
-/// be longer than the 4 GiB that the check reads. A try of 1,000,000 units adds at most 2,500,000, an entry takes at most
-/// 545 bytes beside its cites, and a unit has at most one cite, of 9 bytes.
-const ROOM: u64 = 4_999_999;
 
 /// What the tries at one number of stations come to.
 #[derive(Drop)]
@@ -40,20 +37,16 @@ pub(crate) enum Settled {
     NoMemory(Lowering),
 }
 
-/// Whether a book of so many entries is too large for a try.
-fn is_large(listed: Listed, count: u64) -> bool
-    ensures large { result ≡ true → (4000000 < listed.units) ⊎ (4000000 < listed.entries) ⊎ (4999999 < count) }
+/// Whether a book is too large for a try.
+fn is_large(listed: Listed) -> bool
+    ensures large { result ≡ true → (4000000 < listed.units) ⊎ (4000000 < listed.entries) }
     ensures small { result ≡ false → listed.units ≤ 4000000 }
     ensures few { result ≡ false → listed.entries ≤ 4000000 }
-    ensures room { result ≡ false → count ≤ 4999999 }
 {
     if listed.units > MOST {
         return true;
     }
-    if listed.entries > MOST {
-        return true;
-    }
-    count > ROOM
+    listed.entries > MOST
 }
 
 /// Tries cycles at one number of stations, from the greatest whose product is below the best one.
@@ -73,7 +66,7 @@ pub(crate) fn settle<R: Threads + Wait + Sync, G: Gate>(
     requires to { stations ≤ wanted.most }
     requires few { wanted.most ≤ 1024 }
     requires going { IsGoing wanted.kind inst.now wanted.least wanted.most stations search }
-    requires paid { IsPaid plan.now search }
+    requires paid { IsPaid plan.now (most_ended inst.now wanted.least stations (product_of search)) search }
     ensures { IfOk result (IsSettled wanted.kind inst.now wanted.least wanted.most stations plan.now) }
 {
     let _tasks = inst.tasks();
@@ -83,7 +76,7 @@ pub(crate) fn settle<R: Threads + Wait + Sync, G: Gate>(
         if is_closed(inst, search.book.entries(), stations, cycle) {
             return Ok(Settled::Goes(search));
         }
-        if is_large(search.listed, search.book.len()) {
+        if is_large(search.listed) {
             return Ok(Settled::Large(search));
         }
         match try_cycle(rt, alloc, inst, wanted, stations, plan, gate, search, cycle)? {

@@ -11,10 +11,10 @@ ghost use Rattle.line_rules.specs.Ranges.{IsCycle};
 ghost use Rattle.lemma_core.specs.Books.{IsReserved, MayBeBest};
 ghost use Rattle.cycle_search.specs.rounds.Plans.{IsPlan};
 ghost use Rattle.effic_search.specs.Counted.{IsCounted};
-ghost use Rattle.effic_search.specs.inner.Going.{IsTry, IsTight, IsImproved, IsTried, HasSought, HasAsked};
+ghost use Rattle.effic_search.specs.inner.Going.{IsTry, IsTight, IsImproved, IsTried, HasSought, HasAsked, may_bound};
 ghost use Rattle.effic_search.specs.inner.Going.{product_of, entries_of};
 
-use crate::counting::{counted, ends_with_all, has_all_from};
+use crate::counting::{counted, ends_with_all, has_all_from, has_stray_bound};
 use crate::lowering::{Lowering, Wanted};
 use cycle_search::{Gate, Plan, Verdict, ask_book, seek_book, widened};
 use first_fit::{Ranked, ranked_balance};
@@ -116,7 +116,8 @@ fn taken(
     Ok(improved(inst, kind, search, cycle, balance))
 }
 
-/// The search after a seek at a cycle, over its book with this best balance, and a balance that the seek found.
+/// The search after a seek at a cycle, over its book with this best balance, and a balance that the seek found. What a
+/// seek keeps has nothing by Bound, but no clause says so: where it had, the answer is as out of memory.
 fn sought<R: Threads + Sync>(
     rt: &R,
     alloc: Global,
@@ -136,7 +137,7 @@ fn sought<R: Threads + Sync>(
     requires best { MayBeBest (record { line = inst.now; kind = search.book.about.kind; cycle = cycle }) best }
     requires counted { IsCounted inst.now (entries_of search) (length (entries_of search)) search.listed }
     requires small { search.listed.units ≤ 4000000 }
-    requires room { length (entries_of search) ≤ 4999999 }
+    requires room { length (entries_of search) ≤ 4002048 }
     ensures { IfOk result (λ r. HasSought stations plan.now cycle search r.0 r.1) }
 {
     let Lowering {
@@ -151,6 +152,9 @@ fn sought<R: Threads + Sync>(
     let book = book.reopen(cycle, best);
     let sought = seek_book(rt, alloc, inst, book, stations, plan, seeks)?;
     let listed = counted(inst, kind, sought.book.entries(), from, listed, sought.paid);
+    if has_stray_bound(inst, sought.book.entries(), from, 0) {
+        return Err(AllocError);
+    }
     let search = Lowering {
         cycle: reached,
         balance,
@@ -161,7 +165,18 @@ fn sought<R: Threads + Sync>(
     Ok((search, sought.found))
 }
 
-/// The search after a question was asked over its book, and the answer.
+/// How many entries by Bound a round may add: one where it refuted its question.
+fn may_bound(verdict: &Verdict) -> u64
+    ensures { result ≡ may_bound verdict.now }
+{
+    match verdict {
+        Verdict::Refuted => 1,
+        Verdict::Found | Verdict::Spent(_) | Verdict::NoMemory(_) => 0,
+    }
+}
+
+/// The search after a question was asked over its book, and the answer. By Bound a round publishes at most the question
+/// that it refutes, but no clause says so: where it did more, the answer is as out of memory.
 fn ask<R: Threads + Wait + Sync, G: Gate>(
     rt: &R,
     alloc: Global,
@@ -200,6 +215,9 @@ fn ask<R: Threads + Wait + Sync, G: Gate>(
         listed,
         2 * plan.units,
     );
+    if has_stray_bound(inst, asked.book.entries(), from, may_bound(&asked.verdict)) {
+        return Err(AllocError);
+    }
     let search = Lowering {
         cycle,
         balance,

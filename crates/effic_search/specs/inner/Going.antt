@@ -16,6 +16,7 @@ use Rattle.line_rules.specs.declared.types.Why.TheVariants as why
 use Rattle.line_rules.specs.Times.{longest_of}
 use Rattle.lemma_core.specs.Books.{BookView, IsReserved}
 use Rattle.cycle_search.specs.rounds.declared.closing.Verdict.{Verdict}
+use Rattle.cycle_search.specs.rounds.declared.closing.Verdict.TheVariants as verdict
 use Rattle.cycle_search.specs.rounds.declared.plans.Plan.{Plan}
 use Rattle.round_helpers.specs.Growth.{AreAtCycle}
 use Rattle.cycle_search.specs.Asking.{HasAskedBook}
@@ -24,7 +25,7 @@ use Rattle.cycle_search.specs.Seek.{AreSeeks, HasSoughtBook, seek_room, try_room
 use Rattle.cycle_search.specs.declared.asking.Asked.{Asked}
 use Rattle.cycle_search.specs.declared.seek.SoughtBook.{SoughtBook}
 use Rattle.effic_check.specs.Accepted.{IsClosed, cycle_below}
-use Rattle.effic_search.specs.Counted.{IsCounted, AreFew, IsWithin}
+use Rattle.effic_search.specs.Counted.{IsCounted, AreFew, AreGoalsByBound, IsWithin, bounds, most_ended}
 use Rattle.effic_search.specs.NextTry.{IsNextTry}
 use Rattle.effic_search.specs.Since.{IsSinceGoal}
 use Rattle.effic_search.specs.declared.lowering.Lowering.{Lowering}
@@ -50,18 +51,13 @@ abbrev pub HaveCycles : Line → List Entry → Type 0
 HaveCycles line es = (k : ℕ) (e : Entry) → slice_get es k ≡ Some e → e.why ≢ why.Bound
     → (longest_of line (all_tasks line) ≤ e.cycle) × (e.cycle ≤ max (total_time line) 1)
 
--- each entry behind the first 1,024, which are those of a first book, has such a cycle
-abbrev pub HaveCyclesBehind : Line → List Entry → Type 0
-HaveCyclesBehind line es = (k : ℕ) (e : Entry) → slice_get es k ≡ Some e → 1024 ≤ k
-    → (longest_of line (all_tasks line) ≤ e.cycle) × (e.cycle ≤ max (total_time line) 1)
-
 -- no lesser cycle from 1 on is enough for the balance: this one is the greater of 1 and its longest station
 abbrev pub IsTight : LineKind → Line → Assignment → ℕ → Type 0
 IsTight kind line b cycle = (c : ℕ) → 1 ≤ c → IsRight kind line c b → cycle ≤ c
 
 -- A search: its balance is right at its cycle, and at no lesser one, in a number of stations that is asked for, and of
 -- no greater product than the first one; its entries are counted, and refute each number of stations below the first
--- lower end.
+-- lower end. Those by Bound are of all tasks, and at most two for each number of stations.
 pub record IsLowering (kind : LineKind) (line : Line) (least most : ℕ) (h : Lowering) : Type 0 where
   pub line_is : h.book.about.line ≡ line
   pub kind_is : h.book.about.kind ≡ kind
@@ -79,14 +75,17 @@ pub record IsLowering (kind : LineKind) (line : Line) (least most : ℕ) (h : Lo
   pub within : h.listed.units ≤ 10000000
   pub floored : (m : ℕ) → least ≤ m → m ≤ most → IsFloored line (entries_of h) m
   pub cycles : HaveCycles line (entries_of h)
-  pub behind : HaveCyclesBehind line (entries_of h)
+  pub goals : AreGoalsByBound line (entries_of h)
+  pub by_bound : bounds (entries_of h) + 2 * least ≤ 2 * (most + 1)
 
 -- A search before a try in m stations: at each cycle of a smaller product no entry is behind the last one of all tasks,
--- and the lesser numbers of stations are closed below the product.
+-- and the lesser numbers of stations are closed below the product. By Bound there is at most one entry for each number of
+-- stations, and one for each of those.
 pub record IsGoing (kind : LineKind) (line : Line) (least most m : ℕ) (h : Lowering) : Type 0 where
   pub lowering : IsLowering kind line least most h
   pub clear : (X : ℕ) → 1 ≤ X → m * X < product_of h → IsSinceGoal line X (entries_of h) []
   pub closed : (s : ℕ) → least ≤ s → s < m → IsClosed line (entries_of h) (product_of h) s
+  pub bounded : bounds (entries_of h) + 2 * least ≤ most + 1 + m
 
 -- a smaller product is left open: that of m stations and the cycle X, which is no less than the first lower end
 pub record IsLeftAt (line : Line) (least most m X : ℕ) (h : Lowering) : Type 0 where
@@ -97,38 +96,43 @@ pub record IsLeftAt (line : Line) (least most m X : ℕ) (h : Lowering) : Type 0
   pub near : m * X < product_of h
   pub left : HasAnswer (entries_of h) (all_tasks line) m X → ⊥
 
+-- What a search by a plan has taken in so many tries: its seeks are those of the plan, and its entries are no more, and
+-- of no more units, than those with which a try is made and what one try may add; nor than what the tries and the seeks
+-- may bring. (Own.)
+pub record IsPaid (plan : Plan) (tries : ℕ) (h : Lowering) : Type 0 where
+  pub seeks : AreSeeks plan h.seeks
+  pub units : h.listed.units ≤ 4000000 + try_room plan
+  pub entries : h.listed.entries ≤ 4000001 + try_room plan
+  pub within : h.listed.units ≤ tries * try_room plan
+  pub few : h.listed.entries ≤ tries * (try_room plan + 1)
+  pub short : h.listed.entries ≤ tries * (2 * plan.units + 1) + h.seeks.kept
+
 -- A try in m stations is due at the cycle X, the greatest one whose product is smaller: it is left open, and the book
--- is small enough for a try. The seeks so far are those of the plan. (Own.)
+-- is small enough for a try. What was taken so far is what the plan allows. (Own.)
 pub record IsTry (kind : LineKind) (line : Line) (least most m X : ℕ) (plan : Plan) (h : Lowering) : Type 0 where
   pub going : IsGoing kind line least most m h
   pub is : X ≡ cycle_below (product_of h) m
   pub left : IsLeftAt line least most m X h
   pub small : h.listed.units ≤ 4000000
   pub short : h.listed.entries ≤ 4000000
-  pub room : length (entries_of h) ≤ 4999999
-  pub seeks : AreSeeks plan h.seeks
+  pub paid : IsPaid plan (most_ended line least m (product_of h)) h
 
--- What a search by a plan has taken so far: its seeks are those of the plan, and its entries are no more, and of no more
--- units, than those with which a try is made and what one try may add. (Own.)
-pub record IsPaid (plan : Plan) (h : Lowering) : Type 0 where
-  pub seeks : AreSeeks plan h.seeks
-  pub units : h.listed.units ≤ 4000000 + try_room plan
-  pub entries : h.listed.entries ≤ 4000001 + try_room plan
-  pub many : length (entries_of h) ≤ 5000000 + try_room plan
-
--- a try is due, and the entries are too many, or of too many units
-pub record IsDue (kind : LineKind) (line : Line) (least most : ℕ) (h : Lowering) : Type 0 where
+-- A try is due, and the entries are too many, or of too many units. What was taken is what the plan allows for the tries
+-- that ended.
+pub record IsDue (kind : LineKind) (line : Line) (least most : ℕ) (plan : Plan) (h : Lowering) : Type 0 where
   pub lowering : IsLowering kind line least most h
   pub m : ℕ
   pub X : ℕ
   pub left : IsLeftAt line least most m X h
   pub next : IsNextTry line (entries_of h) least most (product_of h) m X
-  pub large : (4000000 < h.listed.units) ⊎ (4000000 < h.listed.entries) ⊎ (4999999 < length (entries_of h))
+  pub large : (4000000 < h.listed.units) ⊎ (4000000 < h.listed.entries)
+  pub paid : IsPaid plan (most_ended line least m (product_of h)) h
 
 -- The units of a try in m stations at the cycle of the book ended: its frames are a trail from the question, open over
 -- the entries. First stand those before the try, few enough for it, then those of its seek, for which there was room.
 -- From the number `closing_from` on stand those of its round: what they and the frames list is all units of the plan.
--- Where the plan has no seek, they are the entries since the last one of all tasks. (Own.)
+-- Where the plan has no seek, they are the entries since the last one of all tasks. What was taken is what the plan
+-- allows for one try more than those that ended. (Own.)
 pub record IsStuck (kind : LineKind) (line : Line) (least most : ℕ) (plan : Plan) (h : Lowering)
     (frames : List OpenFrame) (closing_from : ℕ) : Type 0 where
   pub lowering : IsLowering kind line least most h
@@ -155,28 +159,31 @@ pub record IsStuck (kind : LineKind) (line : Line) (least most : ℕ) (plan : Pl
   pub twice : published + listed ≤ 2 * plan.units
   pub all : plan.units ≤ published + listed
   pub alone : plan.helpers ≡ 0 → published + listed ≡ plan.units
+  pub paid : IsPaid plan (suc (most_ended line least m (product_of h))) h
 
--- what a try in m stations comes to, where the product was P; what was taken so far is what the plan allows
+-- what a try in m stations comes to, where the product was P; what was taken so far is what the plan allows for the tries
 abbrev pub IsTried : LineKind → Line → ℕ → ℕ → ℕ → Plan → ℕ → Tried → Type 0
 IsTried kind line least most m plan P (tried.Refuted h) =
-    IsGoing kind line least most (m + 1) h × IsPaid plan h
+    IsGoing kind line least most (m + 1) h × IsPaid plan (most_ended line least (m + 1) (product_of h)) h
 IsTried kind line least most m plan P (tried.Found h) =
-    (IsGoing kind line least most m h × (product_of h < P)) × IsPaid plan h
+    (IsGoing kind line least most m h × (product_of h < P)) × IsPaid plan (most_ended line least m (product_of h)) h
 IsTried kind line least most m plan P (tried.Spent h frames closing_from) =
-    IsStuck kind line least most plan h frames closing_from × IsPaid plan h
-IsTried kind line least most m plan P (tried.NoMemory h) = IsLowering kind line least most h × IsPaid plan h
+    IsStuck kind line least most plan h frames closing_from
+IsTried kind line least most m plan P (tried.NoMemory h) =
+    IsLowering kind line least most h × IsPaid plan (most_ended line least (most + 1) (product_of h)) h
 
--- what the tries in m stations come to; what was taken so far is what the plan allows
+-- what the tries in m stations come to; what was taken so far is what the plan allows for the tries
 abbrev pub IsSettled : LineKind → Line → ℕ → ℕ → ℕ → Plan → Settled → Type 0
 IsSettled kind line least most m plan (settled.Goes h) =
-    IsGoing kind line least most (m + 1) h × IsPaid plan h
-IsSettled kind line least most m plan (settled.Large h) = IsDue kind line least most h × IsPaid plan h
+    IsGoing kind line least most (m + 1) h × IsPaid plan (most_ended line least (m + 1) (product_of h)) h
+IsSettled kind line least most m plan (settled.Large h) = IsDue kind line least most plan h
 IsSettled kind line least most m plan (settled.Spent h frames closing_from) =
-    IsStuck kind line least most plan h frames closing_from × IsPaid plan h
-IsSettled kind line least most m plan (settled.NoMemory h) = IsLowering kind line least most h × IsPaid plan h
+    IsStuck kind line least most plan h frames closing_from
+IsSettled kind line least most m plan (settled.NoMemory h) =
+    IsLowering kind line least most h × IsPaid plan (most_ended line least (most + 1) (product_of h)) h
 
 -- A seek for m stations at the cycle X was made over the book of a search: what the book gained is counted, and the
--- rest of the search stays. (Own.)
+-- rest of the search stays. It gained no entry by Bound. (Own.)
 pub record HasSought (m : ℕ) (plan : Plan) (X : ℕ) (old new : Lowering) (found : Option Assignment) : Type 0 where
   pub cycle : new.cycle ≡ old.cycle
   pub balance : new.balance ≡ old.balance
@@ -189,9 +196,18 @@ pub record HasSought (m : ℕ) (plan : Plan) (X : ℕ) (old new : Lowering) (fou
   pub found_is : sought.found ≡ found
   pub does : HasSoughtBook m plan mid old.seeks sought
   pub counted : IsCounted old.book.about.line (entries_of new) (length (entries_of new)) new.listed
+  pub goals : AreGoalsByBound old.book.about.line does.gained
+  pub by_bound : bounds does.gained ≤ 0
+
+-- how many entries by Bound a round may add: one where it refuted its question
+abbrev pub may_bound : Verdict → ℕ
+may_bound verdict.Refuted = 1
+may_bound verdict.Found = 0
+may_bound (verdict.Spent frames) = 0
+may_bound (verdict.NoMemory frames) = 0
 
 -- The question of m stations was asked over the book of a search: what the book gained is counted, and the rest of the
--- search stays.
+-- search stays. It gained an entry by Bound only where the question was refuted, and at most one, of all tasks.
 pub record HasAsked (m : ℕ) (plan : Plan) (old new : Lowering) (v : Verdict) : Type 0 where
   pub cycle : new.cycle ≡ old.cycle
   pub balance : new.balance ≡ old.balance
@@ -201,6 +217,8 @@ pub record HasAsked (m : ℕ) (plan : Plan) (old new : Lowering) (v : Verdict) :
   pub verdict : asked.verdict ≡ v
   pub does : HasAskedBook m plan old.book asked
   pub counted : IsCounted old.book.about.line (entries_of new) (length (entries_of new)) new.listed
+  pub goals : AreGoalsByBound old.book.about.line does.gained
+  pub by_bound : bounds does.gained ≤ may_bound v
 
 -- A search with another balance, which is right at its cycle and at no lesser one, in m stations; the cycle is 1 to X.
 -- The rest stays.

@@ -13,9 +13,9 @@ returns c = λ kind least most solved counted.
       answer = inl (
         refl,
         record {
+          seeks = a.seeks;
           solved = solved;
           fits = product_fits kind a.inst.now least most a.plan.now a.cert solved.certified solved.paid;
-          seeks = a.seeks;
           counted = counted;
           printed = told_behind (optimal_text a.naming.now a.cert) c.idle_of-idle.ensures c.in_ok-first.ensures
               c.in_ok-text.ensures;

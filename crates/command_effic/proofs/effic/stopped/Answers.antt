@@ -15,9 +15,9 @@ returns c = λ kind least most closing_from stopped counted.
         record {
           why = a.why;
           closing_from = closing_from;
-          stopped = stopped;
-          fits = stop_fits a.why kind a.inst.now least most a.plan.now a.cert closing_from stopped;
           seeks = a.seeks;
+          stopped = stopped;
+          fits = stop_fits a.why kind a.inst.now least most a.plan.now a.cert closing_from a.seeks.kept stopped;
           counted = counted;
           printed = told_behind (stopped_text a.naming.now a.why a.cert) c.idle_of-idle.ensures c.in_ok-first.ensures
               c.in_ok-text.ensures;

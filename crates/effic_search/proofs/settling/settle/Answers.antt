@@ -1,8 +1,11 @@
-use Rattle.std.proofs.Common.{ℕ, ◌≤◌, List, subst, arith}
+use Rattle.std.proofs.Common.{ℕ, ◌+◌, ◌≤◌, List, subst, arith}
 use Rattle.line_rules.specs.Balance.{all_tasks}
 use Rattle.line_rules.specs.Entries.{HasAnswer}
 use Rattle.line_rules.specs.declared.types.Entry.{Entry}
-use Rattle.effic_search.proofs.TryFacts.{below_limit, closed_going, left_at, large_book}
+use Rattle.effic_search.specs.Counted.{most_ended}
+use Rattle.effic_search.specs.inner.Going.{product_of}
+use Rattle.effic_search.proofs.GainFacts.{paid_more}
+use Rattle.effic_search.proofs.TryFacts.{below_limit, closed_going, left_at}
 use Rattle.effic_search.proofs.settling.settle.Goals as goal
 
 pub cycle_below-cycle-requires-clause-small : goal.cycle_below-cycle-requires-clause-small
@@ -21,7 +24,9 @@ returns-then-is_closed g c =
       closed_going w.kind c.args.inst.now w.least w.most c.args.stations c.tries.search c.tries.invariant.0
           (subst C c.cycle_below-cycle.ensures (λ one.
           subst H c.entries.ensures.entries (c.is_closed.ensures.closed c.if-is_closed.true one))),
-      c.tries.invariant.1,
+      paid_more c.args.plan.now (most_ended c.args.inst.now w.least c.args.stations (product_of c.tries.search))
+          (most_ended c.args.inst.now w.least (c.args.stations + 1) (product_of c.tries.search)) c.tries.search
+          (omega arith) c.tries.invariant.1,
     )
 
 pub returns-then-is_large : goal.returns-then-is_large
@@ -32,24 +37,23 @@ returns-then-is_large g c =
     let left = left_at w.kind c.args.inst.now w.least w.most c.args.stations c.cycle_below-cycle.result
     c.tries.search c.requires.some c.requires.from c.requires.to c.tries.invariant.0 (c.is_closed.ensures.some
     c.if-is_closed.false) c.cycle_below-cycle.ensures (subst L c.entries.ensures.entries (c.is_closed.ensures.left
-    c.if-is_closed.false)) in (
-      record {
-        lowering = c.tries.invariant.0.lowering;
-        m = c.args.stations;
-        X = c.cycle_below-cycle.result;
-        left = left;
-        next = record {
-          from = left.from;
-          to = left.to;
-          closed = c.tries.invariant.0.closed;
-          some = left.some;
-          is = c.cycle_below-cycle.ensures;
-          left = left.left;
-        };
-        large = large_book c.tries.search _ c.len.ensures.len (c.is_large.ensures.large c.if-is_large.true);
-      },
-      c.tries.invariant.1,
-    )
+    c.if-is_closed.false)) in
+    record {
+      lowering = c.tries.invariant.0.lowering;
+      m = c.args.stations;
+      X = c.cycle_below-cycle.result;
+      left = left;
+      next = record {
+        from = left.from;
+        to = left.to;
+        closed = c.tries.invariant.0.closed;
+        some = left.some;
+        is = c.cycle_below-cycle.ensures;
+        left = left.left;
+      };
+      large = c.is_large.ensures.large c.if-is_large.true;
+      paid = c.tries.invariant.1;
+    }
 
 pub try_cycle-requires-clause-due : goal.try_cycle-requires-clause-due
 try_cycle-requires-clause-due g c κs within =
@@ -65,6 +69,5 @@ try_cycle-requires-clause-due g c κs within =
           (c.is_closed.ensures.left c.if-is_closed.false));
       small = c.is_large.ensures.small c.if-is_large.false;
       short = c.is_large.ensures.few c.if-is_large.false;
-      room = omega (arith, c.is_large.ensures.room c.if-is_large.false, c.len.ensures.len);
-      seeks = c.tries.invariant.1.seeks;
+      paid = c.tries.invariant.1;
     }
