@@ -1,6 +1,6 @@
 -- What a search begins with after a seek. Entries without one by Charge are the same without charges.
 use Rattle.std.proofs.Common.{◌≡◌, ℕ, zero, suc, ◌+◌, ◌≤◌, List, [], ◌∷◌, length, take, Option, Some, None, arith}
-use Rattle.std.proofs.Common.{sym, subst}
+use Rattle.std.proofs.Common.{◌-◌, refl, sym, subst}
 use Rattle.std.specs.Prelude.{slice_get, IfSome}
 use Rattle.std.proofs.lemmas.List.Sums.{sum_by-cons}
 use Rattle.line_rules.proofs.ListFacts.{get_take}
@@ -15,7 +15,9 @@ use Rattle.sequence_rules.specs.Ranges.{IsWhy, IsEntry}
 use Rattle.sequence_search.specs.About.{About}
 use Rattle.sequence_search.specs.Outcomes.{model_order}
 use Rattle.command_outcome.specs.Bounds.{seek_line}
-use Rattle.command_sequence.specs.Beginning.{HasRow, AreChargesFor, IsSaid, IsBegun}
+use Rattle.sequence_seek.specs.Sought.{IsFound}
+use Rattle.warm_sequence.specs.Warm.{AreKept}
+use Rattle.command_sequence.specs.Beginning.{HasRow, AreChargesFor, Begins, IsBegun}
 
 -- no entry of a list is by Charge
 abbrev NoRow : List SeqEntry → Type 0
@@ -72,20 +74,43 @@ all_units_plain cs ds (e ∷ es) none = omega (
   all_units_plain cs ds es (λ k x g. none (suc k) x g),
 )
 
--- the line about a seek of some units
-said_so : (limit used : ℕ) (t : Times) (about : About) (said : List ℕ) → 1 ≤ limit → used ≤ limit
-    → said ≡ seek_line used limit (length about.kept) → IsSaid limit t about said
-said_so zero used t about said some l e = absurd (omega (arith, some))
-said_so (suc k) used t about said some l e = (used, (l, e))
+-- What a seek with these charges found, and what of it a search begins with.
+pub record HasFound (t : Times) (interval reach room limit : ℕ) (first charges : List ℕ) (kept : List SeqEntry)
+    (said : List ℕ) : Type 0 where
+  pub sequence : List ℕ
+  pub lemmas : List SeqEntry
+  pub used : ℕ
+  pub found : IsFound t limit sequence charges lemmas used
+  pub no_worse : cost t interval reach (root_starts t) first ≤ cost t interval reach (root_starts t) sequence
+  pub taken : AreKept t interval reach charges room lemmas kept
+  pub said_so : said ≡ seek_line used limit (length kept)
 
-module _ (t : Times) (interval reach units limit used : ℕ) (first cs : List ℕ) (kept : List SeqEntry) (said : List ℕ)
-    (some : 1 ≤ limit) (within : used ≤ limit) (is : IsSequenceOf t.demands first)
+-- a search begins with what a seek of some units found
+begins_so : (t : Times) (interval reach room limit units : ℕ) (first cs : List ℕ) (o : Option (List ℕ))
+    (kept : List SeqEntry) (said : List ℕ) → 1 ≤ limit → HasFound t interval reach room limit first cs kept said
+    → IfSome o (λ a. a ≡ cs)
+    → Begins t interval reach room limit (record { units = units; first = first; charges = o; kept = kept }) said
+begins_so t interval reach room zero units first cs o kept said some h same = absurd (omega (arith, some))
+begins_so t interval reach room (suc k) units first cs o kept said some h same = record {
+  sequence = h.sequence;
+  charges = cs;
+  lemmas = h.lemmas;
+  used = h.used;
+  found = h.found;
+  no_worse = h.no_worse;
+  kept = h.taken;
+  same = same;
+  said_so = h.said_so;
+}
+
+module _ (t : Times) (interval reach units limit : ℕ) (first cs : List ℕ) (kept : List SeqEntry) (said : List ℕ)
+    (some : 1 ≤ limit) (is : IsSequenceOf t.demands first)
     (no_worse : cost t interval reach (root_starts t) first
     ≤ cost t interval reach (root_starts t) (model_order t.demands))
     (charges : AreCharges t cs) (derived : IsDerived t interval reach cs kept)
     (range : (k : ℕ) (e : SeqEntry) → slice_get kept k ≡ Some e → IsEntry (length t.demands) t.stations (Some cs) e)
     (many : length kept + units ≤ 1999999) (paid : units_of cs kept + units ≤ 1999999)
-    (line : said ≡ seek_line used limit (length kept)) where
+    (has : HasFound t interval reach (1999999 - units) limit first cs kept said) where
   -- with the charges of the seek
   charged : HasRow kept → IsBegun t interval reach units limit
       (record { units = units; first = first; charges = Some cs; kept = kept }) said
@@ -99,8 +124,7 @@ module _ (t : Times) (interval reach units limit used : ℕ) (first cs : List �
     range = range;
     many = many;
     paid = paid;
-    said_so = said_so limit used t (record { units = units; first = first; charges = Some cs; kept = kept }) said some
-        within line;
+    begins = begins_so t interval reach (1999999 - units) limit units first cs (Some cs) kept said some has refl;
   }
 
   pub begun_sought : (o : Option (List ℕ)) → AreChargesFor kept o → IfSome o (λ a. a ≡ cs)
@@ -121,8 +145,7 @@ module _ (t : Times) (interval reach units limit used : ℕ) (first cs : List �
         };
         many = many;
         paid = omega (arith, paid, all_units_plain cs [] kept none);
-        said_so = said_so limit used t (record { units = units; first = first; charges = None; kept = kept }) said some
-            within line;
+        begins = begins_so t interval reach (1999999 - units) limit units first cs None kept said some has tt;
       }
   begun_sought (Some a) row same =
       let P : List ℕ → Type 0 = λ z. IsBegun t interval reach units limit

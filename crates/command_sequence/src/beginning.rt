@@ -61,6 +61,8 @@ fn better(times: &Times, interval: u64, reach: u64, found: Numbers, order: Numbe
     ensures is { IsSequenceOf times.now.demands result }
     ensures no_worse { cost times.now interval reach (root_starts times.now) result
         ≤ cost times.now interval reach (root_starts times.now) order }
+    ensures no_worse_than_found { cost times.now interval reach (root_starts times.now) result
+        ≤ cost times.now interval reach (root_starts times.now) found }
 {
     let total = sequence_cost(times, interval, reach, found.as_slice());
     if total < sequence_cost(times, interval, reach, order.as_slice()) {

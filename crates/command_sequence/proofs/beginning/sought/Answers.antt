@@ -15,11 +15,19 @@ returns c =
     let W : List ℕ → Type 0 = λ z. C c.better-first.result ≤ C z in
     let found = c.in-Done.ensures in
     let kept = c.in-Done-warm_seq.ensures in
-    begun_sought t c.args.interval c.args.reach c.args.units c.args.limit c.in-Done.used c.better-first.result
+    begun_sought t c.args.interval c.args.reach c.args.units c.args.limit c.better-first.result
     c.in-Done.charges c.in-Done-warm_seq.kept (string_bytes c.in_ok-said.said)
-    c.requires.limit.0 found.within c.better-first.ensures.is (subst W order c.better-first.ensures.no_worse)
+    c.requires.limit.0 c.better-first.ensures.is (subst W order c.better-first.ensures.no_worse)
     found.charged kept.derived kept.range (omega (arith, kept.few, c.requires.units.1))
     (omega (arith, kept.paid, c.requires.units.1))
-    (c.in_ok-said.ensures ∙ ap (λ (xs : List ℕ). xs ++ seek_line c.in-Done.used c.args.limit c.len.result)
-    c.new.ensures.bytes ∙ ap (λ k. seek_line c.in-Done.used c.args.limit k) c.len.ensures)
+    (record {
+      sequence = c.in-Done.sequence;
+      lemmas = c.in-Done.lemmas;
+      used = c.in-Done.used;
+      found = found;
+      no_worse = c.better-first.ensures.no_worse_than_found;
+      taken = kept.kept;
+      said_so = c.in_ok-said.ensures ∙ ap (λ (xs : List ℕ). xs ++ seek_line c.in-Done.used c.args.limit c.len.result)
+          c.new.ensures.bytes ∙ ap (λ k. seek_line c.in-Done.used c.args.limit k) c.len.ensures;
+    })
     c.charges_for-charges.result c.charges_for-charges.ensures.charged c.charges_for-charges.ensures.same
